@@ -1,0 +1,12 @@
+use mathlib.Core.Path.{refl, sym, subst, _∙_}
+use lib.Dec.{T}
+use Rattle.numeric.proofs.Words.{nan-stays}
+use Rattle.exponential.specs.Exp.{expOf}
+use Rattle.exponential.proofs.Special.{exp-bands}
+use Rattle.exponential.proofs.exp.exp.Needs as need
+
+pub returns-then-is-nan : need.returns-then-is-nan
+returns-then-is-nan c = nan-stays expOf (unfold expOf in refl) (c .args .x) (c .if-is-nan .ensures tt .value)
+
+pub returns-else-is-nan : need.returns-else-is-nan
+returns-else-is-nan c = c .banded .ensures ∙ exp-bands (c .args .x) (subst T (sym (c .good .0 .1)) tt) (c .if-is-nan .ensures tt .number)

@@ -1,0 +1,3 @@
+pub mod Band
+pub mod Constants
+pub mod Polynomial

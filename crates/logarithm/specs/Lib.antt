@@ -1,0 +1,3 @@
+pub mod Kernel
+pub mod Log
+pub mod Log1p

@@ -1,0 +1,10 @@
+pub mod Rounding
+pub mod Operations
+pub mod Intervals
+pub mod Programs
+pub mod Order
+pub mod Tests
+pub mod Signs
+pub mod Patterns
+pub mod Words
+pub mod Truncation

@@ -1,0 +1,2 @@
+//! A float times a power of two.
+pub mod scalbn;
