@@ -100,6 +100,14 @@ col-hi f a x b c H A X B C h k u v = elim (either-sign c) [
   | inr z ↦ le-trans-f (mul f x c) (mul f a c) H (subst (λ (w : Float). T (le w (mul f a c))) (mul-swap f c x C X) (subst (λ (w : Float). T (le (mul f c x) w)) (mul-swap f c a C A) (mul-anti-r f c a x C A X z h))) u
 ]
 
+-- the verdict on each of the four corners
+corners : (g a b c d : Bool) → T (g && (a && (b && (c && d)))) → T a × T b × T c × T d
+corners g a b c d h =
+    let i = and-r g (a && (b && (c && d))) h in
+    let j = and-r a (b && (c && d)) i in
+    let k = and-r b (c && d) j in
+    (and-l a (b && (c && d)) i, and-l b (c && d) j, and-l c d k, and-r c d k)
+
 pub mul-in : (f : Format) (I J : Itv) (x y : Float) → T (good (imul f I J)) → T (good I) → T (good J) → In x I → In y J → In (mul f x y) (imul f I J)
 mul-in f (mk a b) (mk c d) x y t g g' (h, k) (h', k') =
     let A = and-l (finite a) (finite b) g in
@@ -116,17 +124,11 @@ mul-in f (mk a b) (mk c d) x y t g g' (h, k) (h', k') =
     let hi = fmax (fmax p q) (fmax r s) in
     let G = good (mk a b) && good (mk c d) in
     let W : T (G && (within lo p hi && (within lo q hi && (within lo r hi && within lo s hi)))) = guard-is (G && (within lo p hi && (within lo q hi && (within lo r hi && within lo s hi)))) (mk lo hi) t in
-    let W1 = and-r G (within lo p hi && (within lo q hi && (within lo r hi && within lo s hi))) W in
-    let Wp = and-l (within lo p hi) (within lo q hi && (within lo r hi && within lo s hi)) W1 in
-    let W2 = and-r (within lo p hi) (within lo q hi && (within lo r hi && within lo s hi)) W1 in
-    let Wq = and-l (within lo q hi) (within lo r hi && within lo s hi) W2 in
-    let W3 = and-r (within lo q hi) (within lo r hi && within lo s hi) W2 in
-    let Wr = and-l (within lo r hi) (within lo s hi) W3 in
-    let Ws = and-r (within lo r hi) (within lo s hi) W3 in
-    let xc-lo : T (le lo (mul f x c)) = col-lo f a x b c lo A X B C h k (and-l (le lo p) (le p hi) Wp) (and-l (le lo r) (le r hi) Wr) in
-    let xc-hi : T (le (mul f x c) hi) = col-hi f a x b c hi A X B C h k (and-r (le lo p) (le p hi) Wp) (and-r (le lo r) (le r hi) Wr) in
-    let xd-lo : T (le lo (mul f x d)) = col-lo f a x b d lo A X B D h k (and-l (le lo q) (le q hi) Wq) (and-l (le lo s) (le s hi) Ws) in
-    let xd-hi : T (le (mul f x d) hi) = col-hi f a x b d hi A X B D h k (and-r (le lo q) (le q hi) Wq) (and-r (le lo s) (le s hi) Ws) in
+    let w = corners G (within lo p hi) (within lo q hi) (within lo r hi) (within lo s hi) W in
+    let xc-lo : T (le lo (mul f x c)) = col-lo f a x b c lo A X B C h k (and-l (le lo p) (le p hi) (w .0)) (and-l (le lo r) (le r hi) (w .2)) in
+    let xc-hi : T (le (mul f x c) hi) = col-hi f a x b c hi A X B C h k (and-r (le lo p) (le p hi) (w .0)) (and-r (le lo r) (le r hi) (w .2)) in
+    let xd-lo : T (le lo (mul f x d)) = col-lo f a x b d lo A X B D h k (and-l (le lo q) (le q hi) (w .1)) (and-l (le lo s) (le s hi) (w .3)) in
+    let xd-hi : T (le (mul f x d) hi) = col-hi f a x b d hi A X B D h k (and-r (le lo q) (le q hi) (w .1)) (and-r (le lo s) (le s hi) (w .3)) in
     guard-in (mul f x y) (G && (within lo p hi && (within lo q hi && (within lo r hi && within lo s hi)))) (mk lo hi) W
     (elim (either-sign x) [
       | inl z ↦ (le-trans-f lo (mul f x c) (mul f x y) xc-lo (mul-mono-r f x c y X C Y z h'), le-trans-f (mul f x y) (mul f x d) hi (mul-mono-r f x y d X Y D z k') xd-hi)
@@ -167,23 +169,17 @@ div-in f (mk a b) (mk c d) x y t g g' (h, k) (h', k') =
     let W : T (G && (within lo p hi && (within lo q hi && (within lo r hi && within lo s hi)))) = guard-is (G && (within lo p hi && (within lo q hi && (within lo r hi && within lo s hi)))) (mk lo hi) t in
     let W0 = and-l G (within lo p hi && (within lo q hi && (within lo r hi && within lo s hi))) W in
     let Pc : T (positive c) = and-r (good (mk c d)) (positive c) (and-r (good (mk a b)) (good (mk c d) && positive c) W0) in
-    let W1 = and-r G (within lo p hi && (within lo q hi && (within lo r hi && within lo s hi))) W in
-    let Wp = and-l (within lo p hi) (within lo q hi && (within lo r hi && within lo s hi)) W1 in
-    let W2 = and-r (within lo p hi) (within lo q hi && (within lo r hi && within lo s hi)) W1 in
-    let Wq = and-l (within lo q hi) (within lo r hi && within lo s hi) W2 in
-    let W3 = and-r (within lo q hi) (within lo r hi && within lo s hi) W2 in
-    let Wr = and-l (within lo r hi) (within lo s hi) W3 in
-    let Ws = and-r (within lo r hi) (within lo s hi) W3 in
+    let w = corners G (within lo p hi) (within lo q hi) (within lo r hi) (within lo s hi) W in
     let pc = positive-parts c Pc in
     let py = above-parts c y Pc C Y h' in
     let pd = above-parts c d Pc C D (le-trans-f c y d h' k') in
     let ay-lo : T (le lo (div f a y)) = elim (either-sign a) [
-      | inl z ↦ le-trans-f lo q (div f a y) (and-l (le lo q) (le q hi) Wq) (div-anti-r f a y d A Y D (py .0) (py .1) (pd .0) (pd .1) z k')
-      | inr z ↦ le-trans-f lo p (div f a y) (and-l (le lo p) (le p hi) Wp) (div-mono-r f a c y A C Y (pc .0) (pc .1) (py .0) (py .1) z h')
+      | inl z ↦ le-trans-f lo q (div f a y) (and-l (le lo q) (le q hi) (w .1)) (div-anti-r f a y d A Y D (py .0) (py .1) (pd .0) (pd .1) z k')
+      | inr z ↦ le-trans-f lo p (div f a y) (and-l (le lo p) (le p hi) (w .0)) (div-mono-r f a c y A C Y (pc .0) (pc .1) (py .0) (py .1) z h')
     ] in
     let by-hi : T (le (div f b y) hi) = elim (either-sign b) [
-      | inl z ↦ le-trans-f (div f b y) r hi (div-anti-r f b c y B C Y (pc .0) (pc .1) (py .0) (py .1) z h') (and-r (le lo r) (le r hi) Wr)
-      | inr z ↦ le-trans-f (div f b y) s hi (div-mono-r f b y d B Y D (py .0) (py .1) (pd .0) (pd .1) z k') (and-r (le lo s) (le s hi) Ws)
+      | inl z ↦ le-trans-f (div f b y) r hi (div-anti-r f b c y B C Y (pc .0) (pc .1) (py .0) (py .1) z h') (and-r (le lo r) (le r hi) (w .2))
+      | inr z ↦ le-trans-f (div f b y) s hi (div-mono-r f b y d B Y D (py .0) (py .1) (pd .0) (pd .1) z k') (and-r (le lo s) (le s hi) (w .3))
     ] in
     guard-in (div f x y) (G && (within lo p hi && (within lo q hi && (within lo r hi && within lo s hi)))) (mk lo hi) W
     (le-trans-f lo (div f a y) (div f x y) ay-lo (div-mono-l f a x y A X Y (py .0) (py .1) h), le-trans-f (div f x y) (div f b y) hi (div-mono-l f x b y X B Y (py .0) (py .1) k) by-hi)

@@ -8,3 +8,5 @@ pub mod Signs
 pub mod Patterns
 pub mod Words
 pub mod Truncation
+pub mod Nearest
+pub mod Units

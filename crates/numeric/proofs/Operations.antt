@@ -9,7 +9,7 @@ use lib.Dec.{T, ltb, eqb, eqb·suc-zero, ltb→lt, nltb→le}
 use lib.Ieee.{Float, nan, inf, fin, Format, up, down, unlike, round, sum, add, mul, div, le}
 use lib.Ieee.Scale.{finite}
 use lib.Ieee.Positive.{den, den-pos}
-use Rattle.numeric.proofs.Rounding.{pz, nz, P, N, le→Le, Is, Is-at, rnd-mono}
+use Rattle.numeric.proofs.Rounding.{pz, nz, P, N, le→Le, Is, Is-at, rnd-mono, pz-mul, nz-mul}
 
 -- ---- the sum
 sum-Is : (f : Format) (s : Bool) (a : ℕ) (t : Bool) (b c : ℕ) → Is f (sum f s a t b c) (pz s a + pz t b) (nz s a + nz t b) c
@@ -27,14 +27,6 @@ sum-Is f true a false b c = go (ltb a b) (ltb b a) (ltb→lt a b) (nltb→le a b
     go true y h k g = let l : a < b = h tt in inl (b - a, (omega arith), refl)
     go false true h k g = let l : b ≤ a = k tt in inr (a - b, (omega arith), refl)
     go false false h k g = let l : b ≤ a = k tt in let r : a ≤ b = g tt in inl (a - b, (omega arith), refl)
-
-pz-mul : (s : Bool) (a c : ℕ) → pz s (a * c) ≡ pz s a * c
-pz-mul false a c = refl
-pz-mul true a c = sym (zero-mul c)
-
-nz-mul : (s : Bool) (a c : ℕ) → nz s (a * c) ≡ nz s a * c
-nz-mul false a c = sym (zero-mul c)
-nz-mul true a c = refl
 
 pub add-Is : (f : Format) (x y : Float) → T (finite x) → T (finite y) → Is f (add f x y) (P x * den y + P y * den x) (N x * den y + N y * den x) (den x * den y)
 unfolding add

@@ -7,7 +7,7 @@ use lib.IntN.{ℤ}
 use lib.Ieee.{Float, Format, nan, inf, fin, prec, emax, low, up, down, odd, units, round, neg, isNan}
 use lib.Ieee.Fits.{round-is}
 use lib.Ieee.Order.{kept, drop}
-use Rattle.scaling.proofs.Ends.{round-neg}
+use Rattle.numeric.proofs.Rounding.{round-neg}
 use Rattle.scaling.proofs.Product.{productOf}
 
 odd-number : (d : ℕ) (s : Bool) (q k l : ℕ) → isNan (odd d s q k l) ≡ false

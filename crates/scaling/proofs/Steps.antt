@@ -14,6 +14,7 @@ use lib.Ieee.Exact.{HasValue, round-exact, units-val}
 use lib.Ieee.Fits.{round-is, down-pos, and-l, and-r, two, two-le-pos, reach}
 use lib.Ieee.Order.{kept, drop}
 use lib.Ieee.Scale.{round-same, grid, overflow, normal-of-rounded}
+use Rattle.numeric.proofs.Units.{fitting, power-in-units}
 use Rattle.scaling.proofs.Ends.{overflows, vanishes}
 use Rattle.scaling.proofs.Product.{productOf}
 
@@ -31,9 +32,6 @@ pub record Units (f : Format) (m : ℕ) (e : ℤ) : Type 0 where
   pub short : m < 2 ^ prec f
   pub under : m * 2 ^ i < overflow f
 
-pow-le-back : (a b : ℕ) → 2 ^ a ≤ 2 ^ b → a ≤ b
-pow-le-back a b h = elim (le-or-lt a b) [ inl l ↦ l | inr g ↦ absurd (not-le-of-lt (pow-lt g) h) ]
-
 below-overflow : (f : Format) (m i : ℕ) (e : ℤ) → m * up e * 2 ^ low f ≡ m * 2 ^ i * down e → m * up e < 2 ^ suc (emax f) * down e → m * 2 ^ i < overflow f
 below-overflow f m i e is h =
     lt-of-mul-lt-mul-right (down e)
@@ -42,10 +40,9 @@ below-overflow f m i e is h =
     (le-of-eq (mul-right-comm (2 ^ suc (emax f)) (down e) (2 ^ low f) ∙ ap (λ (z : ℕ). z * down e) (mul-comm (2 ^ suc (emax f)) (2 ^ low f) ∙ sym (pow-add 2 (low f) (suc (emax f))))))))
 
 place : (f : Format) (m : ℕ) (e : ℤ) → down e ≤ 2 ^ low f → (i : ℕ) × (m * up e * 2 ^ low f ≡ m * 2 ^ i * down e)
-place f m (pos a) h = (a + low f, mul-assoc m (2 ^ a) (2 ^ low f) ∙ ap (λ (z : ℕ). m * z) (sym (pow-add 2 a (low f))) ∙ sym (mul-one (m * 2 ^ (a + low f))))
-place f m (negsuc a) h =
-    let l : suc a ≤ low f = pow-le-back (suc a) (low f) h in
-    (low f - suc a, ap (λ (z : ℕ). z * 2 ^ low f) (mul-one m) ∙ ap (λ (z : ℕ). m * z) (ap (λ (z : ℕ). 2 ^ z) (sym (back (low f) (suc a) l)) ∙ pow-add 2 (low f - suc a) (suc a)) ∙ sym (mul-assoc m (2 ^ (low f - suc a)) (2 ^ suc a)))
+place f m e h =
+    let j = power-in-units (low f) e h in
+    (j .0, mul-assoc m (up e) (2 ^ low f) ∙ ap (λ (z : ℕ). m * z) (j .1) ∙ sym (mul-assoc m (2 ^ (j .0)) (down e)))
 
 pub in-units : (f : Format) (s : Bool) (m : ℕ) (e : ℤ) → T (fits f (fin s m e)) → Units f m e
 unfolding fits
@@ -56,17 +53,9 @@ in-units f s zero e h = record {
   under = subst (λ (z : ℕ). z < overflow f) (sym (zero-mul (2 ^ 0))) (pow-pos (low f + suc (emax f)));
 }
 in-units f s (suc m) e h =
-    let a : Bool = eqb (suc m % 2) 1 in
-    let b : Bool = ltb (suc m) (2 ^ prec f) in
-    let c : Bool = leb (down e) (2 ^ low f) in
-    let d : Bool = ltb (suc m * up e) (2 ^ suc (emax f) * down e) in
-    let at = place f (suc m) e (leb→le (down e) (2 ^ low f) (and-r (a && b) c (and-l (a && b && c) d h))) in
-    record {
-      i = at .0;
-      is = at .1;
-      short = ltb→lt (suc m) (2 ^ prec f) (and-r a b (and-l (a && b) c (and-l (a && b && c) d h)));
-      under = below-overflow f (suc m) (at .0) e (at .1) (ltb→lt (suc m * up e) (2 ^ suc (emax f) * down e) (and-r (a && b && c) d h));
-    }
+    let fit = fitting f s m e h in
+    let at = place f (suc m) e (fit .fine) in
+    record { i = at .0; is = at .1; short = fit .short; under = below-overflow f (suc m) (at .0) e (at .1) (fit .under) }
 
 -- ---- scaling a value that is known as a fraction
 pub by-value : (f : Format) (y : Float) (s : Bool) (a c : ℕ) (n : ℤ) → 0 < c → HasValue y s a c → productOf f y n ≡ round f s (a * up n) (c * down n)

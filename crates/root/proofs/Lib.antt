@@ -1,0 +1,2 @@
+pub mod WholeRoot
+pub mod NearestRoot

@@ -1,0 +1,2 @@
+// The square root.
+pub mod sqrt;
