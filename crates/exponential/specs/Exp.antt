@@ -3,26 +3,13 @@ use Prim.Native.Nat.{ℕ, zero, suc}
 use mathlib.Core.Bool.{Bool, true, false, cond}
 use mathlib.Core.List.{List, [], _∷_}
 use lib.IntN.{ℤ, pos}
-use lib.Ieee.{Float, nan, inf, fin, binary64, ofBits, add, sub, mul, div, lt}
+use lib.Ieee.{Float, nan, inf, fin, binary64, ofBits, lt}
 use Rattle.float.specs.Band.{belowBits}
+use Rattle.float.specs.Double.{_⊕_, _⊖_, _⊗_, _⊘_}
 use Rattle.float.specs.Constants.{one, two, plusZero, infinity}
 use Rattle.float.specs.Polynomial.{horner}
 use Rattle.scaling.specs.Scalbn.{scalbnOf}
 use Rattle.exponential.specs.Ln2.{double, equalZ, countOf, highRest, lowRest}
-
-infixl 6 _⊕_ _⊖_
-infixl 7 _⊗_ _⊘_
-abbrev _⊕_ : Float → Float → Float
-x ⊕ y = add binary64 x y
-
-abbrev _⊖_ : Float → Float → Float
-x ⊖ y = sub binary64 x y
-
-abbrev _⊗_ : Float → Float → Float
-x ⊗ y = mul binary64 x y
-
-abbrev _⊘_ : Float → Float → Float
-x ⊘ y = div binary64 x y
 
 -- the coefficients of the kernel, by their bit patterns
 abbrev pub p : List ℕ

@@ -1,3 +1,4 @@
 pub mod Band
 pub mod Constants
+pub mod Double
 pub mod Polynomial

@@ -10,3 +10,4 @@ pub mod Words
 pub mod Truncation
 pub mod Nearest
 pub mod Units
+pub mod Cases

@@ -1,0 +1,51 @@
+//! Answers lines of the table program with the Rust files of libm 0.2.16 themselves. Nothing of
+//! libm is kept here: the files are read from the folder named by `LIBM_MATH` when this program
+//! is built, which `tools/make-run` does.
+//!
+//!     oracle inputs LETTERS     writes the inputs of the stored run
+//!     oracle answer LETTERS     answers standard input; other letters give `? 14`
+//!     oracle search LETTERS     looks for answers that depart from C11 Annex F
+//!
+//! LETTERS are those of the functions that the table program answers, such as ELxn.
+
+mod inputs;
+#[allow(unexpected_cfgs, unused_imports, dead_code)]
+mod libm;
+mod line;
+mod search;
+
+use std::error::Error;
+use std::io::{self, BufWriter, Read, Write};
+
+fn main() -> Result<(), Box<dyn Error>> {
+    let arguments: Vec<String> = std::env::args().skip(1).collect();
+    let [command, letters] = arguments.as_slice() else {
+        return Err("wanted: a command (inputs, answer or search) and letters".into());
+    };
+    if let Some(letter) = letters
+        .chars()
+        .find(|&letter| !line::LETTERS.contains(letter))
+    {
+        return Err(format!("no function has the letter {letter}").into());
+    }
+    match command.as_str() {
+        "inputs" => {
+            eprintln!("random values from the seed {}", inputs::SEED);
+            io::stdout().write_all(&inputs::all(letters)?)?;
+        }
+        "answer" => answer(letters)?,
+        "search" => search::all(letters)?,
+        _ => return Err(format!("no command {command}").into()),
+    }
+    Ok(())
+}
+
+fn answer(letters: &str) -> io::Result<()> {
+    let mut input = Vec::new();
+    io::stdin().read_to_end(&mut input)?;
+    let mut output = BufWriter::new(io::stdout().lock());
+    for line in line::lines(&input) {
+        writeln!(output, "{}", line::reply(line, letters))?;
+    }
+    output.flush()
+}
