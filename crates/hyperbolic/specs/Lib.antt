@@ -1,0 +1,4 @@
+pub mod Expo2
+pub mod Sinh
+pub mod Cosh
+pub mod Tanh

@@ -1,0 +1,3 @@
+pub mod Asinh
+pub mod Acosh
+pub mod Atanh
