@@ -1,4 +1,5 @@
 pub mod Band
 pub mod Constants
 pub mod Double
+pub mod Odd
 pub mod Polynomial

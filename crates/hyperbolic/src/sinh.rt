@@ -3,6 +3,7 @@ use exponential::expm1::expm1;
 use float::band::below;
 use float::band::negative;
 ghost use mathlib.Core.Path.{_≡_};
+ghost use Rattle.float.specs.Odd.{Odd};
 ghost use Rattle.hyperbolic.specs.Sinh.{halfLike, nearOf, midOf, bandsOf, sinhOf};
 
 const HALF: [f64; 2] = [0.5, -0.5];
@@ -44,7 +45,8 @@ fn banded(x: f64) -> f64
 
 // The hyperbolic sine of x.
 pub fn sinh(x: f64) -> f64
-    ensures { λ r. ⌜ r ≡ sinhOf x ⌝ }
+    ensures value { λ r. ⌜ r ≡ sinhOf x ⌝ }
+    ensures odd { λ _. ⌜ Odd sinhOf ⌝ }
 {
     if x.is_nan() { x } else { banded(x) }
 }

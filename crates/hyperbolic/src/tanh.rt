@@ -2,6 +2,7 @@ use exponential::expm1::expm1;
 use float::band::below;
 use float::band::negative;
 ghost use mathlib.Core.Path.{_≡_};
+ghost use Rattle.float.specs.Odd.{Odd};
 ghost use Rattle.hyperbolic.specs.Tanh.{smallOf, midOf, largeOf, sizeOf, bandsOf, tanhOf};
 
 const MINUS_TWO: f64 = -2.0;
@@ -57,7 +58,8 @@ fn banded(x: f64) -> f64
 
 // The hyperbolic tangent of x.
 pub fn tanh(x: f64) -> f64
-    ensures { λ r. ⌜ r ≡ tanhOf x ⌝ }
+    ensures value { λ r. ⌜ r ≡ tanhOf x ⌝ }
+    ensures odd { λ _. ⌜ Odd tanhOf ⌝ }
 {
     if x.is_nan() { x } else { banded(x) }
 }

@@ -1,1 +1,2 @@
 pub mod Special
+pub mod Oddness

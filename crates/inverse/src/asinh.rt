@@ -4,6 +4,7 @@ use logarithm::log::log;
 use logarithm::log1p::log1p;
 use root::sqrt::sqrt;
 ghost use mathlib.Core.Path.{_≡_};
+ghost use Rattle.float.specs.Odd.{Odd};
 ghost use Rattle.inverse.specs.Asinh.{rootOf, smallOf, midOf, largeOf, sizeOf, bandsOf, asinhOf};
 
 const LN2: f64 = f64::from_bits(0x3fe6_2e42_fefa_39ef);
@@ -53,7 +54,8 @@ fn banded(x: f64) -> f64
 
 // The inverse hyperbolic sine of x.
 pub fn asinh(x: f64) -> f64
-    ensures { λ r. ⌜ r ≡ asinhOf x ⌝ }
+    ensures value { λ r. ⌜ r ≡ asinhOf x ⌝ }
+    ensures odd { λ _. ⌜ Odd asinhOf ⌝ }
 {
     if x.is_nan() { x } else { banded(x) }
 }

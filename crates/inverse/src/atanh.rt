@@ -2,6 +2,7 @@ use float::band::below;
 use float::band::negative;
 use logarithm::log1p::log1p;
 ghost use mathlib.Core.Path.{_≡_};
+ghost use Rattle.float.specs.Odd.{Odd};
 ghost use Rattle.inverse.specs.Atanh.{smallOf, largeOf, sizeOf, bandsOf, atanhOf};
 
 fn small(y: f64) -> f64
@@ -44,7 +45,8 @@ fn banded(x: f64) -> f64
 
 // The inverse hyperbolic tangent of x.
 pub fn atanh(x: f64) -> f64
-    ensures { λ r. ⌜ r ≡ atanhOf x ⌝ }
+    ensures value { λ r. ⌜ r ≡ atanhOf x ⌝ }
+    ensures odd { λ _. ⌜ Odd atanhOf ⌝ }
 {
     if x.is_nan() { x } else { banded(x) }
 }

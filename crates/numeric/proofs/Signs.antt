@@ -5,7 +5,9 @@ use native.Mathlib.Omega.{arith}
 use mathlib.Core.Bool.{Bool, true, false, not, cond}
 use lib.Dec.{T, ltb, eqb, nltb→le}
 use lib.Ieee.{Float, nan, inf, fin, Format, up, down, unlike, round, sum, neg, add, mul, div}
-use Rattle.numeric.proofs.Rounding.{round-neg, Signed, round-signed}
+use lib.IntN.{ℤ}
+use Rattle.std.specs.Floats.{negative, withSign}
+use Rattle.numeric.proofs.Rounding.{neg-neg, round-neg, Signed, round-signed}
 
 unlike-not : (s t : Bool) → unlike (not s) t ≡ not (unlike s t)
 unlike-not false false = refl
@@ -118,3 +120,16 @@ alike-apart s (fin t m e) (fin u n d) p q = λ _. p ∙ sym q
 pub mul-signed : (f : Format) (m : ℕ) (e : lib.IntN.ℤ) (n : ℕ) (d : lib.IntN.ℤ) → Signed false (mul f (fin false m e) (fin false n d))
 unfolding mul
 mul-signed f m e n d = round-signed f false (m * up e * (n * up d)) (down e * down d)
+
+-- ---- a function of the size that takes the argument's sign is odd
+abbrev pub by-size : (Float → Float) → Float → Float
+by-size g x = cond (negative x) (neg (g (withSign false x))) (g (withSign false x))
+
+pub by-size-odd : (g : Float → Float) (s : Bool) (m : ℕ) (e : ℤ) → by-size g (neg (fin s m e)) ≡ neg (by-size g (fin s m e))
+by-size-odd g true m e = unfold neg negative withSign in sym (neg-neg (g (fin false m e)))
+by-size-odd g false m e = unfold neg negative withSign in refl
+
+-- a choice turns where its two sides do
+pub cond-neg : (b : Bool) (p q p' q' : Float) → p' ≡ neg p → q' ≡ neg q → cond b p' q' ≡ neg (cond b p q)
+cond-neg true p q p' q' h k = h
+cond-neg false p q p' q' h k = k
