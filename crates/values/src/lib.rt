@@ -1,0 +1,1 @@
+//! Values of the functions, computed of their definitions.
