@@ -20,8 +20,10 @@ pub record Ln2 : Type 0 where
   -- the sizes, just above ln 2 / 2 and 3 ln 2 / 2, from which the count is no longer 0, and no longer 1 or -1
   pub once : ℕ
   pub more : ℕ
+  -- the largest size that is reduced
+  pub widest : ℕ
 
--- the high words 0x3fd62e42 (the last with count 0) and 0x3ff0a2b2
+-- the high words 0x3fd62e42 (the last with count 0) and 0x3ff0a2b2; the widest is exp's last argument above underflow, 745.13..
 abbrev pub double : Ln2
 double = record {
   format = binary64;
@@ -30,6 +32,7 @@ double = record {
   low = 0x3dea39ef35793c76;
   once = 0x3fd62e4300000000;
   more = 0x3ff0a2b200000000;
+  widest = 0x40874910d52d3051;
 }
 
 abbrev pub equalZ : ℤ → ℤ → Bool
@@ -57,9 +60,8 @@ module _ (c : Ln2) where
   abbrev pub lowRest : ℤ → Float
   lowRest k = mul (c .format) (ofInt (c .format) k) (ofBits (c .format) (c .low))
 
--- the largest size that is reduced: exp's last argument above underflow, 745.13..
-abbrev pub widest : Float
-widest = ofBits binary64 0x40874910d52d3051
+  abbrev pub widestOf : Float
+  widestOf = ofBits (c .format) (c .widest)
 
-abbrev pub Reducible : Float → Type 0
-Reducible x = T (le (withSign false x) widest)
+  abbrev pub Reducible : Float → Type 0
+  Reducible x = T (le (withSign false x) widestOf)

@@ -22,7 +22,7 @@ fn half_like(x: f64) -> f64
 
 // x / ln 2 and a half more, away from zero: the fraction is dropped, and the rest fits.
 fn whole(x: f64) -> i32
-    requires { ⌜ Reducible x ⌝ }
+    requires { ⌜ Reducible double x ⌝ }
     ensures { λ r. ⌜ r ≡ wholeOf double x ⌝ }
 {
     truncating_f64_to_i64(INVLN2 * x + half_like(x)) as i32
@@ -30,7 +30,7 @@ fn whole(x: f64) -> i32
 
 // How often ln 2 goes into x, to the nearest.
 pub(crate) fn count(x: f64) -> i32
-    requires { ⌜ Reducible x ⌝ }
+    requires { ⌜ Reducible double x ⌝ }
     ensures { λ r. ⌜ r ≡ countOf double x ⌝ }
 {
     if below(x, 0x3fd6_2e43) {

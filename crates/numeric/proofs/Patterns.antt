@@ -30,7 +30,8 @@ fields-value f (suc x) t h =
     differ : (a b : ℕ) → a < b → a ≡ b → ⊥
     differ a b h e = omega arith
 
-under-top : (b o h : ℕ) → b < o * h → b < h * suc o
+-- the patterns of finite values have the sign bit clear
+pub under-top : (b o h : ℕ) → b < o * h → b < h * suc o
 under-top b o h l = let e : h * suc o ≡ h + o * h = mul-comm h (suc o) ∙ suc-mul o h ∙ comm (o * h) h in omega arith
   where
     comm : (a b : ℕ) → a + b ≡ b + a

@@ -69,7 +69,7 @@ to-signed-down (fin false m g) n Y z p e h = ap (λ (i : ℕ). negℤ (pos i)) (
     least q n e h = omega arith
 
 -- ---- between -n and n it stays there
-abbrev Within : ℕ → ℤ → Type 0
+abbrev pub Within : ℕ → ℤ → Type 0
 Within n k = (negℤ (pos n) ≤ℤ k) × (k ≤ℤ pos n)
 
 up-within : (n j : ℕ) → j ≤ n → Within n (pos j)
@@ -87,7 +87,7 @@ under m n e h = whole-under (fin false m e) (fin false n (pos 0)) (suc n) tt tt 
     more : (n : ℕ) → n * 1 < suc n * 1
     more n = omega arith
 
-pub to-signed-within : (h n : ℕ) (y : Float) → T (le (neg (fin false n (pos 0))) y) → T (le y (fin false n (pos 0))) → (negℤ (pos n) ≤ℤ toSigned h y) × (toSigned h y ≤ℤ pos n)
+pub to-signed-within : (h n : ℕ) (y : Float) → T (le (neg (fin false n (pos 0))) y) → T (le y (fin false n (pos 0))) → Within n (toSigned h y)
 to-signed-within h n nan a b = absurd (unfold le in b)
 to-signed-within h n (inf true) a b = absurd (unfold le neg in a)
 to-signed-within h n (inf false) a b = absurd (unfold le in b)

@@ -1,12 +1,13 @@
 -- The steps of `scalbn`, by the number that they end at. Assumes nothing.
 use mathlib.Core.Path.{_≡_, refl, sym, ap, _∙_, subst}
 use mathlib.Core.Bool.{false}
-use Prim.Native.Nat.{ℕ, zero, suc, _+_, _-_, _*_, _≤_, _<_}
+use Prim.Native.Nat.{ℕ, zero, suc, _+_, _-_, _*_, _≤_, _<_, suc-le-suc}
+use native.Mathlib.Nat.{le-trans}
 use native.Mathlib.Omega.{arith}
 use lib.Dec.{T}
 use lib.IntN.{ℤ, pos, negsuc, _+ℤ_, _-ℤ_}
 use lib.Signed.{_≤ℤ_}
-use lib.Ieee.{Float, Format, nan, inf, fin, binary64, prec, emax, low, up, down, fits, mul, neg, isNan}
+use lib.Ieee.{Float, Format, nan, inf, fin, prec, emax, low, up, down, fits, mul, neg, isNan}
 use lib.Ieee.Fits.{round-fits, nan-fits, inf-fits, down-pos}
 use Rattle.std.proofs.shelf.Signed.{ints}
 use Rattle.scaling.proofs.Steps.{up-step, down-step, top-same, bottom-same, zero-stays}
@@ -59,61 +60,67 @@ module _ (f : Format) (x : Float) (ok : T (fits f x)) where
   pub bottom-alike : (n k : ℕ) → low f + suc (emax f) ≤ n → low f + suc (emax f) ≤ k → scalbnOf f x (negsuc n) ≡ scalbnOf f x (negsuc k)
   bottom-alike n k h g = subst (λ (p : Float → ℤ → Float). p x (negsuc n) ≡ p x (negsuc k)) (product-is f) (bottom-same f x n k h g ok)
 
-abbrev sc : Float → ℤ → Float
-sc = scalbnOf binary64
+-- ---- up to three steps by 2 ^ u, and up to two by 2 ^ - (d + 1) and one more
+module _ (f : Format) (x : Float) (ok : T (fits f x)) where
+  abbrev sc : Float → ℤ → Float
+  sc = scalbnOf f
 
-module _ (x : Float) (ok : T (fits binary64 x)) where
-  one-up : (n : ℕ) → sc (sc x (pos 1023)) (pos n) ≡ sc x (pos (1023 + n))
-  one-up n = up-twice binary64 x ok 1023 n
-
-  two-up : (n : ℕ) → sc (sc (sc x (pos 1023)) (pos 1023)) (pos n) ≡ sc x (pos (2046 + n))
-  two-up n = up-twice binary64 (sc x (pos 1023)) (scaled-fits binary64 x (pos 1023)) 1023 n ∙ one-up (1023 + n) ∙ ap (λ (z : ℕ). sc x (pos z)) (sum n)
+  two-up : (u n : ℕ) → sc (sc (sc x (pos u)) (pos u)) (pos n) ≡ sc x (pos (u + u + n))
+  two-up u n = up-twice f (sc x (pos u)) (scaled-fits f x (pos u)) u n ∙ up-twice f x ok u (u + n) ∙ ap (λ (z : ℕ). sc x (pos z)) (sum u n)
     where
-      sum : (n : ℕ) → 1023 + (1023 + n) ≡ 2046 + n
-      sum n = omega arith
+      sum : (u n : ℕ) → u + (u + n) ≡ u + u + n
+      sum u n = omega arith
 
-  pub raised-once : (n : ℤ) → pos 1023 ≤ℤ n → sc (sc x (pos 1023)) (n -ℤ pos 1023) ≡ sc x n
-  raised-once (pos n) h =
-      let e : pos n -ℤ pos 1023 ≡ pos (n - 1023) = omega (arith, ints) in
-      let k : 1023 + (n - 1023) ≡ n = omega (arith, ints) in
-      ap (sc (sc x (pos 1023))) e ∙ one-up (n - 1023) ∙ ap (λ (z : ℕ). sc x (pos z)) k
-  raised-once (negsuc n) h = absurd (omega (arith, ints))
+  pub raised-once : (u : ℕ) (n : ℤ) → pos u ≤ℤ n → sc (sc x (pos u)) (n -ℤ pos u) ≡ sc x n
+  raised-once u (pos n) h =
+      let e : pos n -ℤ pos u ≡ pos (n - u) = omega (arith, ints) in
+      let k : u + (n - u) ≡ n = omega (arith, ints) in
+      ap (sc (sc x (pos u))) e ∙ up-twice f x ok u (n - u) ∙ ap (λ (z : ℕ). sc x (pos z)) k
+  raised-once u (negsuc n) h = absurd (omega (arith, ints))
 
-  pub raised-twice : (n : ℤ) → pos 2046 ≤ℤ n → sc (sc (sc x (pos 1023)) (pos 1023)) (n -ℤ pos 2046) ≡ sc x n
-  raised-twice (pos n) h =
-      let e : pos n -ℤ pos 2046 ≡ pos (n - 2046) = omega (arith, ints) in
-      let k : 2046 + (n - 2046) ≡ n = omega (arith, ints) in
-      ap (sc (sc (sc x (pos 1023)) (pos 1023))) e ∙ two-up (n - 2046) ∙ ap (λ (z : ℕ). sc x (pos z)) k
-  raised-twice (negsuc n) h = absurd (omega (arith, ints))
+  pub raised-twice : (u : ℕ) (n : ℤ) → pos (u + u) ≤ℤ n → sc (sc (sc x (pos u)) (pos u)) (n -ℤ pos (u + u)) ≡ sc x n
+  raised-twice u (pos n) h =
+      let e : pos n -ℤ pos (u + u) ≡ pos (n - (u + u)) = omega (arith, ints) in
+      let k : u + u + (n - (u + u)) ≡ n = omega (arith, ints) in
+      ap (sc (sc (sc x (pos u)) (pos u))) e ∙ two-up u (n - (u + u)) ∙ ap (λ (z : ℕ). sc x (pos z)) k
+  raised-twice u (negsuc n) h = absurd (omega (arith, ints))
 
-  pub raised-out : (n : ℤ) → pos 3069 ≤ℤ n → sc (sc (sc x (pos 1023)) (pos 1023)) (pos 1023) ≡ sc x n
-  raised-out (pos n) h = two-up 1023 ∙ top-alike binary64 x ok 3069 n (omega arith) (omega (arith, ints))
-  raised-out (negsuc n) h = absurd (omega (arith, ints))
-
-  -- 2 ^ -969 is `negsuc 968`
-  one-down : (n : ℕ) → 53 ≤ n → sc (sc x (negsuc 968)) (negsuc n) ≡ sc x (negsuc (969 + n))
-  one-down n h = down-twice binary64 x ok 968 n (omega arith)
-
-  two-down : (n : ℕ) → 53 ≤ n → sc (sc (sc x (negsuc 968)) (negsuc 968)) (negsuc n) ≡ sc x (negsuc (1938 + n))
-  two-down n h = down-twice binary64 (sc x (negsuc 968)) (scaled-fits binary64 x (negsuc 968)) 968 n (omega arith) ∙ one-down (969 + n) (omega arith) ∙ ap (λ (z : ℕ). sc x (negsuc z)) (sum n)
+  pub raised-out : (u : ℕ) (n : ℤ) → low f + suc (emax f) ≤ u + u + u → pos (u + u + u) ≤ℤ n → sc (sc (sc x (pos u)) (pos u)) (pos u) ≡ sc x n
+  raised-out u (pos n) b h = two-up u u ∙ top-alike f x ok (u + u + u) n b (le-trans b (under (u + u + u) n h))
     where
-      sum : (n : ℕ) → 969 + (969 + n) ≡ 1938 + n
-      sum n = omega arith
+      under : (t n : ℕ) → pos t ≤ℤ pos n → t ≤ n
+      under t n h = omega (arith, ints)
+  raised-out u (negsuc n) b h = absurd (omega (arith, ints))
 
-  pub lowered-once : (n : ℤ) → n ≤ℤ negsuc 1022 → sc (sc x (negsuc 968)) (n +ℤ pos 969) ≡ sc x n
-  lowered-once (pos n) h = absurd (omega (arith, ints))
-  lowered-once (negsuc n) h =
-      let e : negsuc n +ℤ pos 969 ≡ negsuc (n - 969) = omega (arith, ints) in
-      let k : 969 + (n - 969) ≡ n = omega (arith, ints) in
-      ap (sc (sc x (negsuc 968))) e ∙ one-down (n - 969) (omega (arith, ints)) ∙ ap (λ (z : ℕ). sc x (negsuc z)) k
+  one-down : (d n : ℕ) → prec f ≤ n → sc (sc x (negsuc d)) (negsuc n) ≡ sc x (negsuc (suc d + n))
+  one-down d n h = down-twice f x ok d n (suc-le-suc h)
 
-  pub lowered-twice : (n : ℤ) → n ≤ℤ negsuc 1991 → sc (sc (sc x (negsuc 968)) (negsuc 968)) (n +ℤ pos 1938) ≡ sc x n
-  lowered-twice (pos n) h = absurd (omega (arith, ints))
-  lowered-twice (negsuc n) h =
-      let e : negsuc n +ℤ pos 1938 ≡ negsuc (n - 1938) = omega (arith, ints) in
-      let k : 1938 + (n - 1938) ≡ n = omega (arith, ints) in
-      ap (sc (sc (sc x (negsuc 968)) (negsuc 968))) e ∙ two-down (n - 1938) (omega (arith, ints)) ∙ ap (λ (z : ℕ). sc x (negsuc z)) k
+  two-down : (d n : ℕ) → prec f ≤ n → sc (sc (sc x (negsuc d)) (negsuc d)) (negsuc n) ≡ sc x (negsuc (suc d + suc d + n))
+  two-down d n h = down-twice f (sc x (negsuc d)) (scaled-fits f x (negsuc d)) d n (suc-le-suc h) ∙ one-down d (suc d + n) (more (prec f) d n h) ∙ ap (λ (z : ℕ). sc x (negsuc z)) (sum d n)
+    where
+      sum : (d n : ℕ) → suc d + (suc d + n) ≡ suc d + suc d + n
+      sum d n = omega arith
 
-  pub lowered-out : (n : ℤ) → n ≤ℤ negsuc 2959 → sc (sc (sc x (negsuc 968)) (negsuc 968)) (negsuc 1021) ≡ sc x n
-  lowered-out (pos n) h = absurd (omega (arith, ints))
-  lowered-out (negsuc n) h = two-down 1021 (omega arith) ∙ bottom-alike binary64 x ok 2959 n (omega arith) (omega (arith, ints))
+      more : (p d n : ℕ) → p ≤ n → p ≤ suc d + n
+      more p d n h = omega arith
+
+  pub lowered-once : (d : ℕ) (n : ℤ) → n ≤ℤ negsuc (suc d + prec f) → sc (sc x (negsuc d)) (n +ℤ pos (suc d)) ≡ sc x n
+  lowered-once d (pos n) h = absurd (omega (arith, ints))
+  lowered-once d (negsuc n) h =
+      let e : negsuc n +ℤ pos (suc d) ≡ negsuc (n - suc d) = omega (arith, ints) in
+      let k : suc d + (n - suc d) ≡ n = omega (arith, ints) in
+      ap (sc (sc x (negsuc d))) e ∙ one-down d (n - suc d) (omega (arith, ints)) ∙ ap (λ (z : ℕ). sc x (negsuc z)) k
+
+  pub lowered-twice : (d : ℕ) (n : ℤ) → n ≤ℤ negsuc (suc d + suc d + prec f) → sc (sc (sc x (negsuc d)) (negsuc d)) (n +ℤ pos (suc d + suc d)) ≡ sc x n
+  lowered-twice d (pos n) h = absurd (omega (arith, ints))
+  lowered-twice d (negsuc n) h =
+      let e : negsuc n +ℤ pos (suc d + suc d) ≡ negsuc (n - (suc d + suc d)) = omega (arith, ints) in
+      let k : suc d + suc d + (n - (suc d + suc d)) ≡ n = omega (arith, ints) in
+      ap (sc (sc (sc x (negsuc d)) (negsuc d))) e ∙ two-down d (n - (suc d + suc d)) (omega (arith, ints)) ∙ ap (λ (z : ℕ). sc x (negsuc z)) k
+
+  pub lowered-out : (d b : ℕ) (n : ℤ) → prec f ≤ b → low f + suc (emax f) ≤ suc d + suc d + b → n ≤ℤ negsuc (suc d + suc d + b) → sc (sc (sc x (negsuc d)) (negsuc d)) (negsuc b) ≡ sc x n
+  lowered-out d b (pos n) p o h = absurd (omega (arith, ints))
+  lowered-out d b (negsuc n) p o h = two-down d b p ∙ bottom-alike f x ok (suc d + suc d + b) n o (le-trans o (under (suc d + suc d + b) n h))
+    where
+      under : (t n : ℕ) → negsuc n ≤ℤ negsuc t → t ≤ n
+      under t n h = omega (arith, ints)

@@ -1,2 +1,3 @@
 //! A float times a power of two.
 pub mod scalbn;
+pub mod scalbnf;

@@ -1,5 +1,5 @@
 -- The definitions have Annex F's special values. Assumes nothing.
-use mathlib.Core.Path.{_≡_, refl, ap, _∙_, sym}
+use mathlib.Core.Path.{_≡_, refl, ap, _∙_, sym, subst}
 use mathlib.Core.Bool.{Bool, true, false, cond}
 use Prim.Native.Nat.{ℕ, zero, suc, _+_, _*_, _<_}
 use native.Mathlib.Omega.{arith}
@@ -11,7 +11,12 @@ use Rattle.numeric.proofs.Tests.{is-on}
 use Rattle.exponential.specs.Exp.{expOf}
 use Rattle.exponential.specs.Expm1.{expm1Of}
 use Rattle.logarithm.specs.Log.{logOf}
+use Rattle.logarithm.specs.Log1p as Log1p
 use Rattle.logarithm.specs.Log1p.{log1pOf}
+use Rattle.single.specs.Expm1f.{expm1fOf}
+use Rattle.single.specs.Log1pf as Log1pf
+use Rattle.single.specs.Log1pf.{log1pfOf}
+use Rattle.float.specs.Constants.{minusOne, notANumber}
 use Rattle.hyperbolic.specs.Sinh.{sinhOf}
 use Rattle.hyperbolic.specs.Cosh.{coshOf}
 use Rattle.hyperbolic.specs.Tanh.{tanhOf}
@@ -74,12 +79,14 @@ log-below (fin s zero e) h = absurd (no-zero-below s e h)
 log-below (fin true (suc m) e) h = unfold logOf in refl
 log-below (fin false (suc m) e) h = absurd (nothing-below-zero (suc m) e h)
 
-log1p-below : (x : Float) → T (lt x (fin true 1 (pos 0))) → log1pOf x ≡ nan
-log1p-below nan h = unfold log1pOf in refl
-log1p-below (inf true) h = unfold log1pOf in refl
-log1p-below (inf false) h = absurd (unfold lt in h)
-log1p-below (fin s zero e) h = absurd (no-zero-below-minus-one s e h)
-log1p-below (fin s (suc m) e) h = unfold log1pOf ofBits in first (lt (fin s (suc m) e) (fin true 1 (pos 0))) nan _ h
+-- in each format: where -1 and the NaN are what they should be
+module _ (t : Log1p.Log1p) (one-is : minusOne (t .log .format) ≡ fin true 1 (pos 0)) (nan-is : notANumber (t .log .format) ≡ nan) where
+  log1p-below : (x : Float) → T (lt x (fin true 1 (pos 0))) → Log1p.valueOf t x ≡ nan
+  log1p-below nan h = refl
+  log1p-below (inf true) h = refl
+  log1p-below (inf false) h = absurd (unfold lt in h)
+  log1p-below (fin s zero e) h = absurd (no-zero-below-minus-one s e h)
+  log1p-below (fin s (suc m) e) h = first (lt (fin s (suc m) e) (minusOne (t .log .format))) (notANumber (t .log .format)) _ (subst (λ (y : Float). T (lt (fin s (suc m) e) y)) (sym one-is) h) ∙ nan-is
 
 size-beyond : (y : Float) → T (lt (fin false 1 (pos 0)) y) → Atanh.sizeOf y ≡ nan
 unfolding ofBits
@@ -114,12 +121,12 @@ log-one : logOf (fin false 1 (pos 0)) ≡ fin false 0 (pos 0)
 unfolding logOf ofBits eq
 log-one = refl
 
-log1p-minus-one : log1pOf (fin true 1 (pos 0)) ≡ inf true
-unfolding log1pOf ofBits lt eq
-log1p-minus-one = refl
+log1p-minus-one : (log1pOf (fin true 1 (pos 0)) ≡ inf true) × (log1pfOf (fin true 1 (pos 0)) ≡ inf true)
+unfolding log1pOf log1pfOf ofBits lt eq
+log1p-minus-one = (refl, refl)
 
 pub annex-f : Annex-F
-unfolding acoshOf asinhOf atanhOf coshOf sinhOf tanhOf expOf expm1Of logOf log1pOf ofBits
+unfolding acoshOf asinhOf atanhOf coshOf sinhOf tanhOf expOf expm1Of logOf log1pOf expm1fOf log1pfOf ofBits
 annex-f = record {
   acosh = record { keeps-nan = refl; at-one = acosh-one; below-one = acosh-below; at-infinity = refl };
   asinh = record { keeps-nan = refl; keeps-zeros = λ s. refl; keeps-infinities = λ s. refl };
@@ -130,5 +137,7 @@ annex-f = record {
   exp = record { keeps-nan = refl; at-zero = λ s. refl; at-minus-infinity = refl; at-infinity = refl };
   expm1 = record { keeps-nan = refl; keeps-zeros = λ s. refl; at-minus-infinity = refl; at-infinity = refl };
   log = record { keeps-nan = refl; at-zero = λ s. refl; at-one = log-one; below-zero = log-below; at-infinity = refl };
-  log1p = record { keeps-nan = refl; keeps-zeros = λ s. refl; at-minus-one = log1p-minus-one; below-minus-one = log1p-below; at-infinity = refl };
+  log1p = record { keeps-nan = refl; keeps-zeros = λ s. refl; at-minus-one = log1p-minus-one .0; below-minus-one = log1p-below Log1p.double refl refl; at-infinity = refl };
+  expm1f = record { keeps-nan = refl; keeps-zeros = λ s. refl; at-minus-infinity = refl; at-infinity = refl };
+  log1pf = record { keeps-nan = refl; keeps-zeros = λ s. refl; at-minus-one = log1p-minus-one .1; below-minus-one = log1p-below Log1pf.single refl refl; at-infinity = refl };
 }

@@ -1,1 +1,2 @@
 pub mod Annex
+pub mod Values

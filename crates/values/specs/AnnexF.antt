@@ -15,6 +15,8 @@ use Rattle.hyperbolic.specs.Tanh.{tanhOf}
 use Rattle.inverse.specs.Asinh.{asinhOf}
 use Rattle.inverse.specs.Acosh.{acoshOf}
 use Rattle.inverse.specs.Atanh.{atanhOf}
+use Rattle.single.specs.Expm1f.{expm1fOf}
+use Rattle.single.specs.Log1pf.{log1pfOf}
 
 -- the zero and the one of a sign: s is true for the negative ones
 abbrev pub zeroOf : Bool → Float
@@ -109,3 +111,5 @@ pub record Annex-F : Type 0 where
   pub expm1 : Expm1 expm1Of
   pub log : Log logOf
   pub log1p : Log1p log1pOf
+  pub expm1f : Expm1 expm1fOf
+  pub log1pf : Log1p log1pfOf

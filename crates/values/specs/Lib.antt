@@ -1,1 +1,2 @@
 pub mod AnnexF
+pub mod Known

@@ -1,27 +1,19 @@
-use mathlib.Core.Path.{_≡_, ap, _∙_}
 use native.Mathlib.Omega.{arith}
-use lib.Ieee.{Float, binary64, add, mul, ofBits, toSigned}
 use Rattle.std.proofs.shelf.Signed.{ints}
-use Rattle.exponential.specs.Ln2.{double, wholeOf}
-use Rattle.exponential.proofs.Reach.{low-bound, high-bound, whole-within}
+use Rattle.exponential.specs.Ln2.{double}
+use Rattle.exponential.proofs.Reach.{Counted, inside-i64, counted, double-reach}
 use Rattle.exponential.proofs.ln2.whole.Needs as need
 
 pub truncating-f64-to-i64-requires : need.truncating-f64-to-i64-requires
-truncating-f64-to-i64-requires c κs = simp (c .half-like .ensures) (record { low-bound = low-bound (c .args .x) (c .pre); high-bound = high-bound (c .args .x) (c .pre) })
+truncating-f64-to-i64-requires c κs =
+    let b = inside-i64 double 1076 double-reach (c .args .x) (c .half-like .result) (c .half-like .ensures) (c .pre) in
+    record { low-bound = b .0; high-bound = b .1 }
 
-is-whole : (c : need.After-truncating-f64-to-i64) → c .truncating-f64-to-i64 .result ≡ wholeOf double (c .args .x)
-is-whole c =
-    c .truncating-f64-to-i64 .ensures
-    ∙ ap (λ (h : Float). toSigned 63 (add binary64 (mul binary64 (ofBits binary64 0x3ff71547652b82fe) (c .args .x)) h)) (c .half-like .ensures)
+count-is : (c : need.After-truncating-f64-to-i64) → Counted double 1076 (c .args .x) (c .truncating-f64-to-i64 .result)
+count-is c = counted double 1076 double-reach (c .args .x) (c .half-like .result) (c .half-like .ensures) (c .pre) (c .truncating-f64-to-i64 .result) (c .truncating-f64-to-i64 .ensures)
 
 pub cast-result : need.cast-result
-cast-result c =
-    let e = is-whole c in
-    let k = whole-within (c .args .x) (c .pre) in
-    omega (arith, ints)
+cast-result c = let k = count-is c in omega (arith, ints)
 
 pub returns : need.returns
-returns c =
-    let e = is-whole c in
-    let k = whole-within (c .args .x) (c .pre) in
-    omega (arith, ints)
+returns c = let k = count-is c in omega (arith, ints)

@@ -1,0 +1,6 @@
+mod Answered
+mod Bytes
+mod Feeding
+mod Names
+mod Reading
+mod Spelling

@@ -1,0 +1,2 @@
+pub mod Expm1f
+pub mod Log1pf
