@@ -14,3 +14,7 @@ mod logarithms;
 mod same;
 #[cfg(test)]
 mod scalings;
+#[cfg(test)]
+mod singles;
+#[cfg(test)]
+mod values;

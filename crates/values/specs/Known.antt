@@ -10,6 +10,9 @@ use Rattle.values.specs.declared.Known.{Known}
 abbrev row : Function → ℕ → ℕ → Known
 row f argument result = record { function = f; argument = argument; result = result }
 
+-- expm1(-0) = -0; expm1(2^-60) = 2^-60; expm1(-40) = -1; expm1(710) = +infinity; log1p(-1) = -infinity;
+-- sinh(-2^-30) = -2^-30; cosh(2^-30) = 1; tanh(-800) = -1; acosh(1) = +0; acosh(-2^25) is NaN;
+-- atanh(-1) = -infinity; log(1) = +0; expm1f(-20) = -1; log1pf(-1) = -infinity
 abbrev pub knownValues : List Known
 knownValues =
     row Expm1 0x8000000000000000 0x8000000000000000 ∷

@@ -4,6 +4,35 @@ ghost use mathlib.Core.Path.{_≡_};
 ghost use Rattle.values.specs.AnnexF.{Annex-F};
 ghost use Rattle.values.specs.Known.{knownValues, Stand};
 
+const ZERO: u64 = 0;
+
+const MINUS_ZERO: u64 = 0x8000_0000_0000_0000;
+
+const ONE: u64 = 0x3ff0_0000_0000_0000;
+
+const MINUS_ONE: u64 = 0xbff0_0000_0000_0000;
+
+const INFINITY: u64 = 0x7ff0_0000_0000_0000;
+
+const MINUS_INFINITY: u64 = 0xfff0_0000_0000_0000;
+
+const NAN: u64 = 0x7ff8_0000_0000_0000;
+
+// 2^-60, -2^-30, 2^-30 and -2^25.
+const TINY: u64 = 0x3c30_0000_0000_0000;
+
+const MINUS_SMALL: u64 = 0xbe10_0000_0000_0000;
+
+const SMALL: u64 = 0x3e10_0000_0000_0000;
+
+const MINUS_LARGE: u64 = 0xc180_0000_0000_0000;
+
+const MINUS_40: u64 = 0xc044_0000_0000_0000;
+
+const MINUS_800: u64 = 0xc089_0000_0000_0000;
+
+const PLUS_710: u64 = 0x4086_3000_0000_0000;
+
 // A value: the function, and the bits of its argument and of its result there.
 #[derive(Clone, Copy)]
 pub struct Known {
@@ -30,65 +59,20 @@ pub fn known_values() -> [Known; 14]
     ensures special { λ _. ⌜ Annex-F ⌝ }
 {
     [
-        // expm1(-0) = -0
-        row(
-            Function::Expm1,
-            0x8000_0000_0000_0000,
-            0x8000_0000_0000_0000,
-        ),
-        // expm1(2^-60) = 2^-60
-        row(
-            Function::Expm1,
-            0x3c30_0000_0000_0000,
-            0x3c30_0000_0000_0000,
-        ),
-        // expm1(-40) = -1
-        row(
-            Function::Expm1,
-            0xc044_0000_0000_0000,
-            0xbff0_0000_0000_0000,
-        ),
-        // expm1(710) = +infinity
-        row(
-            Function::Expm1,
-            0x4086_3000_0000_0000,
-            0x7ff0_0000_0000_0000,
-        ),
-        // log1p(-1) = -infinity
-        row(
-            Function::Log1p,
-            0xbff0_0000_0000_0000,
-            0xfff0_0000_0000_0000,
-        ),
-        // sinh(-2^-30) = -2^-30
-        row(Function::Sinh, 0xbe10_0000_0000_0000, 0xbe10_0000_0000_0000),
-        // cosh(2^-30) = 1
-        row(Function::Cosh, 0x3e10_0000_0000_0000, 0x3ff0_0000_0000_0000),
-        // tanh(-800) = -1
-        row(Function::Tanh, 0xc089_0000_0000_0000, 0xbff0_0000_0000_0000),
-        // acosh(1) = +0
-        row(
-            Function::Acosh,
-            0x3ff0_0000_0000_0000,
-            0x0000_0000_0000_0000,
-        ),
-        // acosh(-2^25) = NaN
-        row(
-            Function::Acosh,
-            0xc180_0000_0000_0000,
-            0x7ff8_0000_0000_0000,
-        ),
-        // atanh(-1) = -infinity
-        row(
-            Function::Atanh,
-            0xbff0_0000_0000_0000,
-            0xfff0_0000_0000_0000,
-        ),
-        // log(1) = +0
-        row(Function::Log, 0x3ff0_0000_0000_0000, 0x0000_0000_0000_0000),
-        // expm1f(-20) = -1
+        row(Function::Expm1, MINUS_ZERO, MINUS_ZERO),
+        row(Function::Expm1, TINY, TINY),
+        row(Function::Expm1, MINUS_40, MINUS_ONE),
+        row(Function::Expm1, PLUS_710, INFINITY),
+        row(Function::Log1p, MINUS_ONE, MINUS_INFINITY),
+        row(Function::Sinh, MINUS_SMALL, MINUS_SMALL),
+        row(Function::Cosh, SMALL, ONE),
+        row(Function::Tanh, MINUS_800, MINUS_ONE),
+        row(Function::Acosh, ONE, ZERO),
+        row(Function::Acosh, MINUS_LARGE, NAN),
+        row(Function::Atanh, MINUS_ONE, MINUS_INFINITY),
+        row(Function::Log, ONE, ZERO),
+        // an f32: -20 and -1, -1 and -infinity
         row(Function::Expm1f, 0xc1a0_0000, 0xbf80_0000),
-        // log1pf(-1) = -infinity
         row(Function::Log1pf, 0xbf80_0000, 0xff80_0000),
     ]
 }
