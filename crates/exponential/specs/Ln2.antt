@@ -17,7 +17,7 @@ pub record Ln2 : Type 0 where
   -- ln 2 in two parts: the products of the first with the counts are exact
   pub high : ℕ
   pub low : ℕ
-  -- the sizes, just above ln 2 / 2 and 3 ln 2 / 2, from which the count is no longer 0, and no longer 1 or -1
+  -- the sizes, near ln 2 / 2 and 3 ln 2 / 2, from which the count is no longer 0, and no longer 1 or -1
   pub once : ℕ
   pub more : ℕ
   -- the largest size that is reduced

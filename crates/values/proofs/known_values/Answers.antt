@@ -1,7 +1,6 @@
-use borrow.Author.Needs.{needs}
 use Rattle.values.proofs.Annex.{annex-f}
 use Rattle.values.proofs.Values.{values-stand}
 use Rattle.values.proofs.known_values.Needs as need
 
 pub returns : need.returns
-returns c = record { rows = search needs; stand = values-stand; special = annex-f }
+returns c = record { rows = c .rows .ensures; stand = values-stand; special = annex-f }
