@@ -40,7 +40,7 @@ module _ (c : Ln2) where
   abbrev pub ends : List Itv
   ends = mk (neg (widestOf c)) (widestOf c) ∷ mk (minusHalf F) (half F) ∷ []
 
-  half-in : (x : Float) → In (halfLike c x) (mk (minusHalf F) (half F))
+  pub half-in : (x : Float) → In (halfLike c x) (mk (minusHalf F) (half F))
   half-in x = by-cases (λ (h : Float). In h (mk (minusHalf F) (half F))) (negative x) (minusHalf F) (half F) (λ _. (halves F .0, halves F .1)) (λ _. (halves F .1, halves F .2))
 
 -- between these ends it is at most n in size, far inside an i64: to be computed of a table

@@ -3,3 +3,4 @@ pub mod Constants
 pub mod Double
 pub mod Odd
 pub mod Polynomial
+pub mod Range

@@ -1,9 +1,10 @@
 // Why a line is refused.
 ghost use mathlib.Core.Path.{_≡_};
 ghost use Rattle.lines.specs.Held.{held};
-ghost use Rattle.lines.specs.Refusals.{numberOf, refusalText};
+ghost use Rattle.lines.specs.Refusals.{told, refusalText};
 use crate::short::Reply;
 use crate::short::ShortBytes;
+use refusals::Numbered;
 
 #[derive(Clone, Copy)]
 pub enum Refusal {
@@ -11,16 +12,17 @@ pub enum Refusal {
     Malformed,
 }
 
-impl Refusal {
-    // The number by which the refusal is told.
-    pub fn number(self) -> u8
-        ensures { λ r. ⌜ r ≡ numberOf self ⌝ }
-    {
-        match self {
+pub impl Numbered for Refusal as LineRefusal {
+    ghost told = { told };
+
+    fn number(&self) -> u8 {
+        match *self {
             Refusal::Malformed => 14,
         }
     }
+}
 
+impl Refusal {
     // The text that is printed for the refusal.
     pub(crate) fn text(self) -> Reply
         ensures { λ r. ⌜ held r ≡ refusalText self ⌝ }

@@ -1,6 +1,8 @@
 // Lines that are refused.
+use lines::refusal::LineRefusal;
 use lines::refusal::Refusal;
 use lines::reply::reply;
+use refusals::Numbered;
 use std::test::*;
 
 fn refused(lines: &[&[u8]]) -> Result<(), Fail> {

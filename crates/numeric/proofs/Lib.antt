@@ -10,4 +10,9 @@ pub mod Words
 pub mod Truncation
 pub mod Nearest
 pub mod Units
+pub mod Error
+pub mod Residue
+pub mod Split
+pub mod Numbers
 pub mod Cases
+pub mod Opposites

@@ -32,7 +32,7 @@ compared a b = go (compare a b) (leb→le a b) (nleb→lt a b) (eqb→eq a b) (�
     go Ordering·gt h k e n = k tt
 
 -- w is at most a half away from a / b
-abbrev Within-half : ℕ → ℕ → ℕ → Type 0
+abbrev pub Within-half : ℕ → ℕ → ℕ → Type 0
 Within-half w a b = (w * b * 2 ≤ a * 2 + b) × (a * 2 ≤ w * b * 2 + b)
 
 by-rest : (o : Ordering) (q r b : ℕ) → Compared o (r * 2) b → r < b → Within-half (nearest q o) (q * b + r) b
@@ -43,7 +43,7 @@ by-rest Ordering·eq q r b h l =
     let m : q % 2 * b ≤ 1 * b = mul-le-mul-right b (omega arith) in
     ((omega arith), (omega arith))
 
-within-half : (a b : ℕ) → 0 < b → Within-half (closest a b) a b
+pub within-half : (a b : ℕ) → 0 < b → Within-half (closest a b) a b
 within-half a b B = subst (λ (z : ℕ). Within-half (closest a b) z b) (div-add-mod' a b) (by-rest (compare (a % b * 2) b) (a / b) (a % b) b (compared (a % b * 2) b) (mod-lt a B))
 
 -- ---- where values of the format lie

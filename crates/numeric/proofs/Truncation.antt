@@ -47,26 +47,26 @@ cut-hi f y k Y n e h = not-T (le (round f false (suc k) 1) y) (λ (t : T (le (ro
         let d : N w * den y ≡ 0 = ap (λ (z : ℕ). z * den y) (q .2) ∙ zero-mul (den y) in
         lt-irrefl 0 (omega arith)
 
--- ---- a cast to i32 of a value above zero, and of its opposite
-pub to-signed-up : (y : Float) (n : ℕ) → T (finite y) → N y ≡ 0 → 0 < P y → P y / den y ≡ n → n < 2 ^ 31 → toSigned 31 y ≡ pos n
+-- ---- a cast to a whole number of a value above zero, and of its opposite
+pub to-signed-up : (h : ℕ) (y : Float) (n : ℕ) → T (finite y) → N y ≡ 0 → 0 < P y → P y / den y ≡ n → n < 2 ^ h → toSigned h y ≡ pos n
 unfolding toSigned
-to-signed-up nan n Y z p e h = absurd Y
-to-signed-up (inf s) n Y z p e h = absurd Y
-to-signed-up (fin true m g) n Y z p e h = absurd (lt-irrefl 0 p)
-to-signed-up (fin false m g) n Y z p e h = ap pos (least (m * up g / down g) n e h)
+to-signed-up h nan n Y z p e l = absurd Y
+to-signed-up h (inf s) n Y z p e l = absurd Y
+to-signed-up h (fin true m g) n Y z p e l = absurd (lt-irrefl 0 p)
+to-signed-up h (fin false m g) n Y z p e l = ap pos (least (m * up g / down g) n (2 ^ h) e l)
   where
-    least : (q n : ℕ) → q ≡ n → n < 2 ^ 31 → min q (2 ^ 31 - 1) ≡ n
-    least q n e h = omega arith
+    least : (q n t : ℕ) → q ≡ n → n < t → min q (t - 1) ≡ n
+    least q n t e l = omega arith
 
-pub to-signed-down : (y : Float) (n : ℕ) → T (finite y) → N y ≡ 0 → 0 < P y → P y / den y ≡ n → n < 2 ^ 31 → toSigned 31 (neg y) ≡ negℤ (pos n)
+pub to-signed-down : (h : ℕ) (y : Float) (n : ℕ) → T (finite y) → N y ≡ 0 → 0 < P y → P y / den y ≡ n → n < 2 ^ h → toSigned h (neg y) ≡ negℤ (pos n)
 unfolding toSigned neg
-to-signed-down nan n Y z p e h = absurd Y
-to-signed-down (inf s) n Y z p e h = absurd Y
-to-signed-down (fin true m g) n Y z p e h = absurd (lt-irrefl 0 p)
-to-signed-down (fin false m g) n Y z p e h = ap (λ (i : ℕ). negℤ (pos i)) (least (m * up g / down g) n e h)
+to-signed-down h nan n Y z p e l = absurd Y
+to-signed-down h (inf s) n Y z p e l = absurd Y
+to-signed-down h (fin true m g) n Y z p e l = absurd (lt-irrefl 0 p)
+to-signed-down h (fin false m g) n Y z p e l = ap (λ (i : ℕ). negℤ (pos i)) (least (m * up g / down g) n (2 ^ h) e l)
   where
-    least : (q n : ℕ) → q ≡ n → n < 2 ^ 31 → min q (2 ^ 31) ≡ n
-    least q n e h = omega arith
+    least : (q n t : ℕ) → q ≡ n → n < t → min q t ≡ n
+    least q n t e l = omega arith
 
 -- ---- between -n and n it stays there
 abbrev pub Within : ℕ → ℤ → Type 0

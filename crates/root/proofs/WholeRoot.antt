@@ -59,7 +59,7 @@ within-square t n h =
     let l : t ≤ rootBelow (size n) n = omega arith in
     omega (arith, mul-le-mul l l)
 
-of-within : (t n : ℕ) → t * t ≤ n → 2 * t ≤ rootTwice n
+pub of-within : (t n : ℕ) → t * t ≤ n → 2 * t ≤ rootTwice n
 of-within t n h =
     let r = rootBelow (size n) n in
     let w = twice n in
@@ -75,7 +75,7 @@ beyond-square t n h =
       | inr p ↦ let l : r + 1 ≤ t = omega arith in omega (arith, mul-le-mul l l)
     ]
 
-of-beyond : (t n : ℕ) → n ≤ t * t → rootTwice n ≤ 2 * t
+pub of-beyond : (t n : ℕ) → n ≤ t * t → rootTwice n ≤ 2 * t
 of-beyond t n h =
     let r = rootBelow (size n) n in
     let w = twice n in

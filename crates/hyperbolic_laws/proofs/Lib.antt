@@ -1,0 +1,4 @@
+pub mod Tanh
+pub mod Expo2
+pub mod Sinh
+pub mod Cosh

@@ -1,0 +1,2 @@
+pub mod CentsLaws
+pub mod FloatLaws
