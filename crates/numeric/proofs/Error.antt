@@ -2,13 +2,14 @@
 use mathlib.Core.Path.{_≡_, refl, sym, ap, _∙_, subst}
 use mathlib.Core.Logic.{inl, inr}
 use Prim.Native.Nat.{ℕ, _+_, _-_, _*_, _/_, _^_, _≤_, _<_}
-use native.Mathlib.Nat.{zero-mul, mul-comm, mul-assoc, mul-left-comm, mul-le-mul-right, mul-le-mul-left, mul-pos, add-mul, div-lt-iff-lt-mul}
+use native.Mathlib.Nat.{zero-mul, mul-comm, mul-assoc, mul-left-comm, mul-le-mul-right, mul-le-mul-left, mul-pos, add-mul, div-lt-iff-lt-mul, le-div-iff-mul-le, lt-of-le-of-lt, lt-of-not-le, not-le-of-lt}
 use native.Mathlib.Omega.{arith}
 use mathlib.Core.Bool.{true, false, true≢false}
 use lib.Dec.{T}
-use lib.Pow.{pow-pos, pow-mono}
+use lib.Pow.{pow-pos, pow-mono, pow-add}
 use lib.Ieee.{Float, nan, inf, fin, Format, prec, low, size, round, neg}
-use lib.Ieee.Digits.{size-le}
+use lib.Ieee.Digits.{size-le, size-lt, size-reaches}
+use lib.Ieee.Fits.{two, two-le-pos}
 use lib.Ieee.Exact.{HasValue}
 use lib.Ieee.Order.{kept, drop}
 use lib.Ieee.Scale.{finite, grid, round-val, round-under}
@@ -31,6 +32,53 @@ near-grid f a c K C h =
     let t0 : w * (c * 2 ^ k) * 2 ≤ n * 2 + c * 2 ^ k = t .0 in
     let t1 : n * 2 ≤ w * (c * 2 ^ k) * 2 + c * 2 ^ k = t .1 in
     ((omega arith), (omega arith))
+
+-- ---- relative to the value: in the normal range a rounded fraction is off by at most 2 ^ -prec of it
+off-by : (G n E H Q : ℕ) → G * 2 ≤ n * 2 + E → n * 2 ≤ G * 2 + E → E * H ≤ n → Q ≡ 2 * H → (G * Q ≤ n * Q + n) × (n * Q ≤ G * Q + n)
+off-by G n E H Q h k s e =
+    let a : G * Q ≡ G * 2 * H = ap (λ (z : ℕ). G * z) e ∙ sym (mul-assoc G 2 H) in
+    let b : n * Q ≡ n * 2 * H = ap (λ (z : ℕ). n * z) e ∙ sym (mul-assoc n 2 H) in
+    let h' = mul-le-mul-right H h in
+    let k' = mul-le-mul-right H k in
+    let c = add-mul (n * 2) E H in
+    let d = add-mul (G * 2) E H in
+    ((omega arith), (omega arith))
+
+pub relative-error : (f : Format) (a c : ℕ) → 0 < c → 2 ^ (prec f - 1) * c ≤ a * 2 ^ low f
+    → (grid f a c * c * 2 ^ prec f ≤ a * 2 ^ low f * 2 ^ prec f + a * 2 ^ low f) × (a * 2 ^ low f * 2 ^ prec f ≤ grid f a c * c * 2 ^ prec f + a * 2 ^ low f)
+relative-error f a c C h =
+    let n = a * 2 ^ low f in
+    let p = prec f in
+    let z = size (n / c) in
+    let K = z - p in
+    let P1 : 0 < p = two-le-pos p (two f) in
+    let q : 2 ^ (p - 1) ≤ n / c = le-div-iff-mul-le C .1 h in
+    let long : p ≤ z = reached p z P1 (lt-of-le-of-lt q (size-lt (n / c))) in
+    let whole : p + K ≡ z = there p z long in
+    let under : n < 2 ^ (p + K) * c = subst (λ (y : ℕ). n < 2 ^ y * c) (sym whole) (div-lt-iff-lt-mul C .0 (size-lt (n / c))) in
+    let t = near-grid f a c K C under in
+    let over : 2 ^ (z - 1) * c ≤ n = le-div-iff-mul-le C .0 (size-reaches (n / c) (z - 1) (before p z P1 long)) in
+    let split : 2 ^ (z - 1) ≡ 2 ^ K * 2 ^ (p - 1) = ap (λ (y : ℕ). 2 ^ y) (apart p z P1 long) ∙ pow-add 2 K (p - 1) in
+    let small : c * 2 ^ K * 2 ^ (p - 1) ≤ n = subst (λ (y : ℕ). y ≤ n) (ap (λ (y : ℕ). y * c) split ∙ mul-comm (2 ^ K * 2 ^ (p - 1)) c ∙ sym (mul-assoc c (2 ^ K) (2 ^ (p - 1)))) over in
+    off-by (grid f a c * c) n (c * 2 ^ K) (2 ^ (p - 1)) (2 ^ p) (t .0) (t .1) small (ap (λ (y : ℕ). 2 ^ y) (doubled p P1) ∙ pow-add 2 1 (p - 1))
+  where
+    reached : (p z : ℕ) → 0 < p → 2 ^ (p - 1) < 2 ^ z → p ≤ z
+    reached p z h g = back p z h (lt-of-not-le (λ (l : z ≤ p - 1). not-le-of-lt g (pow-mono l)))
+      where
+        back : (p z : ℕ) → 0 < p → p - 1 < z → p ≤ z
+        back p z h l = omega arith
+
+    there : (p z : ℕ) → p ≤ z → p + (z - p) ≡ z
+    there p z h = omega arith
+
+    before : (p z : ℕ) → 0 < p → p ≤ z → z - 1 < z
+    before p z h g = omega arith
+
+    apart : (p z : ℕ) → 0 < p → p ≤ z → z - 1 ≡ z - p + (p - 1)
+    apart p z h g = omega arith
+
+    doubled : (p : ℕ) → 0 < p → p ≡ 1 + (p - 1)
+    doubled p h = omega arith
 
 -- ---- with the sign: x is (p - n) / c moved by at most E / (l * 2), where l is 2 ^ low and E is 2 ^ K
 core : (X D c a n p l E g : ℕ) → p ≡ n + a → X * l ≡ g * D → g * c * 2 ≤ a * l * 2 + c * E → a * l * 2 ≤ g * c * 2 + c * E
