@@ -9,6 +9,8 @@ mod hyperbolics;
 #[cfg(test)]
 mod inverses;
 #[cfg(test)]
+mod known;
+#[cfg(test)]
 mod logarithms;
 #[cfg(test)]
 mod same;
@@ -16,5 +18,3 @@ mod same;
 mod scalings;
 #[cfg(test)]
 mod singles;
-#[cfg(test)]
-mod values;

@@ -4,7 +4,7 @@ use native.Mathlib.Nat.{mul-mul-mul_comm}
 use lib.Ieee.{Float, nan, inf, fin, Format, up, down, le}
 use lib.Ieee.Fits.{down_pos}
 use lib.Ieee.Order.{round_mono}
-use Rattle.std.specs.Float.{twice-sqrt-sticky}
+use lib.Ieee.{root_twice}
 use Rattle.numeric.proofs.Rounding.{Signed, round_signed, signed_le, Le_of_le, le_trans_f}
 use Rattle.numeric.proofs.Intervals.{mk, In}
 use Rattle.numeric.proofs.Order.{zero_f}
@@ -23,8 +23,8 @@ scaled a b c w B h =
 root_under : (f : Format) (a b c : ℕ) → 0 < b → a ≤ c * c * b → T (le (root_of f a b) (whole f c))
 root_under f a b c B h =
     let n = a * 2 ^ 4542 / b in
-    let k : twice-sqrt-sticky n ≤ 2 * (c * 2 ^ 2271) = of_beyond (c * 2 ^ 2271) n (scaled a b c (2 ^ 2271) B h) in
-    round_mono f (twice-sqrt-sticky n) (2 ^ 2272) c 1 (pow_pos 2272) (pow_pos 0) (le_trans (le_of_eq (mul-one (twice-sqrt-sticky n))) (le_trans k (le_of_eq (mul_left_comm 2 c (2 ^ 2271)))))
+    let k : root_twice n ≤ 2 * (c * 2 ^ 2271) = of_beyond (c * 2 ^ 2271) n (scaled a b c (2 ^ 2271) B h) in
+    round_mono f (root_twice n) (2 ^ 2272) c 1 (pow_pos 2272) (pow_pos 0) (le_trans (le_of_eq (mul-one (root_twice n))) (le_trans k (le_of_eq (mul_left_comm 2 c (2 ^ 2271)))))
 
 -- what is rounded without a sign
 above_zero : (z : Float) → Signed false z → T (le zero_f z)
@@ -39,7 +39,7 @@ root_in f (fin s zero e) c h k = (h, le_trans_f (fin s 0 e) zero_f (whole f c) (
 root_in f (fin true (suc m) e) c h k = absurd (above_negative m e h)
 root_in f (fin false (suc m) e) c h k =
     let l = Le_of_le (fin false (suc m) e) (fin false (c * c) (pos 0)) tt tt k in (
-      above_zero (root_of f (suc m * up e) (down e)) (round_signed f false (twice-sqrt-sticky (suc m * up e * 2 ^ 4542 / down e)) (2 ^ 2272)),
+      above_zero (root_of f (suc m * up e) (down e)) (round_signed f false (root_twice (suc m * up e * 2 ^ 4542 / down e)) (2 ^ 2272)),
       root_under f (suc m * up e) (down e) c (down_pos e) (plain (suc m * up e) (c * c) (down e) l),
     )
   where

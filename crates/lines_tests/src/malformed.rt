@@ -8,7 +8,7 @@ use std::test::*;
 fn refused(rt: &impl Abort, lines: &[&[u8]]) -> Result<(), Fail> {
     for line in lines {
         let printed = reply(line);
-        assert_eq!(rt; printed.as_slice(), b"? 14\n");
+        assert_eq!(rt; printed.as_slice(), b"? 14\n".as_slice());
     }
     Ok(())
 }

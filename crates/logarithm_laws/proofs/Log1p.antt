@@ -1,6 +1,6 @@
 -- Where log1p's values lie: band by band, over the table of a format. Assumes nothing.
 use Rattle.std.proofs.Common.{◌≡◌, ℕ, zero, suc, ◌+◌, ◌-◌, ◌*◌, ◌/◌, ◌%◌, ◌<◌, ◌≤◌, Bool, true, false, cond, not, ◌&&◌, T, ltb, List, [], ◌∷◌, ℤ, pos, negsuc, refl, ◌∙◌, subst, inl, inr, lt_of_lt_of_le, lt_of_le_of_lt, le_of_lt, mul-le-mul_right, mod-lt, suc-mul, div-lt_iff_lt-mul, mul-lt-mul_of_pos_right, div-add-mod', le-div_iff_mul-le, arith, ltb→lt, nltb→le, T_not, pow_pos}
-use lib.Signed.{le_z, lt_z}
+use Rattle.std.specs.Prelude.{int_le, int_lt}
 use Rattle.std.proofs.lemmas.Int.{ints}
 use lib.Dec.{not_T}
 use lib.Ieee.{Float, nan, inf, fin, Format, binary32, binary64, prec, emax, hid, ones, top, fits, of_bits, to_bits, neg, add, sub, div, le, lt, eq, is_nan}
@@ -100,7 +100,7 @@ abbrev count : ℤ → ℕ
 count (pos n) = n
 count (negsuc n) = 0
 
-count_lt : (k e : ℤ) → T (lt_z k e) → T (lt_z k (pos (count e)))
+count_lt : (k e : ℤ) → T (int_lt k e) → T (int_lt k (pos (count e)))
 count_lt k (pos n) h = h
 count_lt (pos a) (negsuc b) h = absurd h
 count_lt (negsuc a) (negsuc b) h = tt
@@ -214,7 +214,7 @@ module _ (p : Log1p) (n : ℕ) where
       bits = to_bits F u % top F
 
       -- below the exponent from which it is zero
-      module _ (h : T (lt_z k p.exact)) where
+      module _ (h : T (int_lt k p.exact)) where
         end_inside : end < ones F * hid F
         end_inside = ltb→lt end (ones F * hid F) ok.inside
 
@@ -285,12 +285,12 @@ module _ (p : Log1p) (n : ℕ) where
             let l = fits_in (span F large_code (Us q)) c_low c_high in
             let s = fits_in (span F small_code (Us q)) c_low c_high in
             let t = and_r (ends q) (quotients q) test in
-            by_cases (λ (z : Float). In (div F z u) (mk c_low c_high)) (le_z (pos 2) k) a b
+            by_cases (λ (z : Float). In (div F z u) (mk c_low c_high)) (int_le (pos 2) k) a b
             (λ _. bounded_all F large_code (x ∷ u ∷ []) (Us q) c_low c_high (and_l l s t) (x_in, (u_in, tt)))
             (λ _. bounded_all F small_code (x ∷ u ∷ []) (Us q) c_low c_high (and_r l s t) (x_in, (u_in, tt)))
 
       correction_in : In (correction_of p k x u) (mk c_low c_high)
-      correction_in = by_cases (λ (c : Float). In c (mk c_low c_high)) (lt_z k p.exact) (div F (lost_of p k x u) u) (plus_zero F) quotient_in (λ _. ok.none)
+      correction_in = by_cases (λ (c : Float). In c (mk c_low c_high)) (int_lt k p.exact) (div F (lost_of p k x u) u) (plus_zero F) quotient_in (λ _. ok.none)
 
       cut_in : In (cut_of p x u (to_bits F u)) (mk least most)
       cut_in =

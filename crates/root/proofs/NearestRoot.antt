@@ -1,5 +1,5 @@
 -- The rounded root is nearer to the exact root than every other value of its format. A unit is the format's smallest value. Assumes nothing.
-use Rattle.std.proofs.Common.{◌≡◌, ℕ, zero, suc, ◌+◌, ◌*◌, ◌/◌, ◌^◌, ◌<◌, ◌≤◌, true, false, T, sym, refl, ap, ◌∙◌, subst, le_trans, le_of_eq, lt_of_lt_of_le, lt_of_le_of_lt, le_of_lt, mul-le-mul_right, zero-lt-suc, mul_assoc, mul_comm, le_antisymm, lt_of_mul-lt-mul_right, mul-le-mul_left, mul-lt-mul_of_pos_right, mul-pos, one-mul, mul-one, mul_right_comm, le_of_mul-le-mul_right, mul-div_cancel, mul_left_comm, arith, lit<, pow_pos, pow-add}
+use Rattle.std.proofs.Common.{◌≡◌, ℕ, zero, suc, ◌+◌, ◌*◌, ◌/◌, ◌^◌, ◌<◌, ◌≤◌, true, false, T, ℤ, sym, refl, ap, ◌∙◌, subst, le_trans, le_of_eq, lt_of_lt_of_le, lt_of_le_of_lt, le_of_lt, mul-le-mul_right, zero-lt-suc, mul_assoc, mul_comm, le_antisymm, lt_of_mul-lt-mul_right, mul-le-mul_left, mul-lt-mul_of_pos_right, mul-pos, one-mul, mul-one, mul_right_comm, le_of_mul-le-mul_right, mul-div_cancel, mul_left_comm, arith, lit<, pow_pos, pow-add}
 use native.Mathlib.Nat.{mul-mul-mul_comm, eq_of_mul-eq-mul_right}
 use lib.Arith.{lt_of_le-ne}
 use lib.Pow.{pow-lt}
@@ -10,9 +10,10 @@ use lib.Ieee.Order.{round_mono}
 use lib.Ieee.Positive.{num, den, den_pos, positive, positive-finite, positive_of_value, value→cross, between}
 use lib.Ieee.Scale.{grid, round_val, round_under}
 use Rattle.std.specs.Float as Floats
-use Rattle.std.specs.Float.{twice-sqrt-sticky}
+use lib.Ieee.{root_twice}
 use Rattle.root.specs.Sqrt.{root_of, sqrt_of, NearestRoot, MiddleBelow, MiddleAbove, sum_top, sum_bottom}
 use Rattle.numeric.proofs.Nearest.{Short, Nearest, round_nearest}
+use Rattle.numeric.proofs.Words.{zero_exponent}
 use Rattle.numeric.proofs.Units.{Units, in_units, fitting, below_cross, above_cross, units_lt, units_sum, some_units, few_units}
 use Rattle.root.proofs.WholeRoot.{scaled_within, of_scaled_within, scaled_beyond, of_scaled_beyond, halved, short_root}
 
@@ -96,7 +97,7 @@ module _ (f : Format) (w h m : ℕ) (W : 0 < w) (H : Limit f h) (some : 0 < m) (
   q = m * l
 
   abbrev s : ℕ
-  s = twice-sqrt-sticky (4 * (w * w) * q)
+  s = root_twice (4 * (w * w) * q)
 
   abbrev y : Float
   y = round f false s (4 * (w * l))
@@ -216,12 +217,12 @@ module _ (f : Format) (w h m : ℕ) (W : 0 < w) (H : Limit f h) (some : 0 < m) (
 
 -- ---- the law of `sqrt_of`
 
-root_of_is : (f : Format) (w : ℕ) → Parts f w → (x d m : ℕ) → 0 < d → x * 2 ^ low f ≡ m * d → root_of f x d ≡ round f false (twice-sqrt-sticky (4 * (w * w) * (m * 2 ^ low f))) (4 * (w * 2 ^ low f))
+root_of_is : (f : Format) (w : ℕ) → Parts f w → (x d m : ℕ) → 0 < d → x * 2 ^ low f ≡ m * d → root_of f x d ≡ round f false (root_twice (4 * (w * w) * (m * 2 ^ low f))) (4 * (w * 2 ^ low f))
 root_of_is f w P x d m D e =
-    ap (λ (z : ℕ). round f false (twice-sqrt-sticky (x * z / d)) (2 ^ 2272)) (sym P.square)
-    ∙ ap (λ (z : ℕ). round f false (twice-sqrt-sticky (z / d)) (2 ^ 2272)) (radicand w (2 ^ low f) x d m e)
-    ∙ ap (λ (z : ℕ). round f false (twice-sqrt-sticky z) (2 ^ 2272)) (mul-div_cancel (4 * (w * w) * (m * 2 ^ low f)) D)
-    ∙ ap (λ (z : ℕ). round f false (twice-sqrt-sticky (4 * (w * w) * (m * 2 ^ low f))) z) (sym P.whole)
+    ap (λ (z : ℕ). round f false (root_twice (x * z / d)) (2 ^ 2272)) (sym P.square)
+    ∙ ap (λ (z : ℕ). round f false (root_twice (z / d)) (2 ^ 2272)) (radicand w (2 ^ low f) x d m e)
+    ∙ ap (λ (z : ℕ). round f false (root_twice z) (2 ^ 2272)) (mul-div_cancel (4 * (w * w) * (m * 2 ^ low f)) D)
+    ∙ ap (λ (z : ℕ). round f false (root_twice (4 * (w * w) * (m * 2 ^ low f))) z) (sym P.whole)
 
 nearest_root_of : (f : Format) (x : Float) → Units f x → 0 < num x → num x < 2 ^ suc (emax f) * den x → NearestRoot f x (root_of f (num x) (den x))
 nearest_root_of f x u some bound =
@@ -241,12 +242,11 @@ nearest_root f (fin false (suc m) e) F p = nearest_root_of f (fin false (suc m) 
 
 -- ---- the standard library's root is the one defined here
 
-pub same_root : (f : Format) (x : Float) → Floats.sqrt f x ≡ sqrt_of f x
+pub same_root : (f : Format) (x : Float) → T (fits f x) → Floats.sqrt f x ≡ sqrt_of f x
 unfolding Floats.sqrt sqrt_of
-same_root f nan = refl
-same_root f (inf true) = refl
-same_root f (inf false) = refl
-same_root f (fin true zero e) = refl
-same_root f (fin false zero e) = refl
-same_root f (fin true (suc m) e) = refl
-same_root f (fin false (suc m) e) = refl
+same_root f nan F = refl
+same_root f (inf true) F = refl
+same_root f (inf false) F = refl
+same_root f (fin s zero e) F = ap (λ (d : ℤ). fin s 0 d) (sym (zero_exponent f s e F))
+same_root f (fin true (suc m) e) F = refl
+same_root f (fin false (suc m) e) F = refl

@@ -6,7 +6,7 @@ use lib.Ieee.Digits.{size-lt}
 use borrow.Author.Tests.{eqb-false}
 use lib.Arith.{lt_of_le-ne}
 use Rattle.numeric.proofs.Nearest.{Short}
-use Rattle.std.specs.Float.{isqrt-below, twice-sqrt-sticky}
+use lib.Ieee.{root_below, root_twice}
 
 -- r is the whole part of the root of n
 abbrev pub WholeRoot : ℕ → ℕ → Type 0
@@ -17,12 +17,12 @@ digit : (r n : ℕ) (b : Bool) → WholeRoot r (n / 4) → leb ((2 * r + 1) * (2
 digit r n true h e = (leb-true _ _ e, omega (arith, h.1))
 digit r n false h e = (omega (arith, h.0), leb-false _ _ e)
 
-digits : (k n : ℕ) → n < 2 ^ k → WholeRoot (isqrt-below k n) n
-unfolding isqrt-below
+digits : (k n : ℕ) → n < 2 ^ k → WholeRoot (root_below k n) n
+unfolding root_below
 digits zero n h = omega arith
-digits (suc k) n h = digit (isqrt-below k (n / 4)) n _ (digits k (n / 4) (omega arith)) refl
+digits (suc k) n h = digit (root_below k (n / 4)) n _ (digits k (n / 4) (omega arith)) refl
 
-pub whole_root : (n : ℕ) → WholeRoot (isqrt-below (size n) n) n
+pub whole_root : (n : ℕ) → WholeRoot (root_below (size n) n) n
 whole_root n = digits (size n) n (size-lt n)
 
 -- numbers are in the order of their squares
@@ -39,41 +39,41 @@ record Twice (r s n : ℕ) : Type 0 where
   exact : s ≤ 2 * r → r * r ≡ n
   inexact : 2 * r < s → r * r < n
 
-twice : (n : ℕ) → Twice (isqrt-below (size n) n) (twice-sqrt-sticky n) n
-unfolding twice-sqrt-sticky
-twice n = let r = isqrt-below (size n) n in go r (whole_root n) (eqb (r * r) n) (eqb-true (r * r) n) (eqb-false (r * r) n)
+twice : (n : ℕ) → Twice (root_below (size n) n) (root_twice n) n
+unfolding root_twice
+twice n = let r = root_below (size n) n in go r (whole_root n) (eqb (r * r) n) (eqb-true (r * r) n) (eqb-false (r * r) n)
   where
     go : (r : ℕ) → WholeRoot r n → (b : Bool) → (b ≡ true → r * r ≡ n) → (b ≡ false → r * r ≡ n → ⊥) → Twice r (2 * r + cond b 0 1) n
     go r w true h k = record { whole = w; least = omega arith; most = omega arith; exact = λ l. h refl; inexact = λ l. absurd (omega arith) }
     go r w false h k = record { whole = w; least = omega arith; most = omega arith; exact = λ l. absurd (omega arith); inexact = λ l. lt_of_le-ne w.0 (k refl) }
 
-within_square : (t n : ℕ) → 2 * t ≤ twice-sqrt-sticky n → t * t ≤ n
+within_square : (t n : ℕ) → 2 * t ≤ root_twice n → t * t ≤ n
 within_square t n h =
     let w = twice n in
-    let l : t ≤ isqrt-below (size n) n = omega arith in
+    let l : t ≤ root_below (size n) n = omega arith in
     omega (arith, mul-le-mul l l)
 
-pub of_within : (t n : ℕ) → t * t ≤ n → 2 * t ≤ twice-sqrt-sticky n
+pub of_within : (t n : ℕ) → t * t ≤ n → 2 * t ≤ root_twice n
 of_within t n h =
-    let r = isqrt-below (size n) n in
+    let r = root_below (size n) n in
     let w = twice n in
     let l : t < r + 1 = lt_of_squares t (r + 1) (omega arith) in
     omega arith
 
-beyond_square : (t n : ℕ) → twice-sqrt-sticky n ≤ 2 * t → n ≤ t * t
+beyond_square : (t n : ℕ) → root_twice n ≤ 2 * t → n ≤ t * t
 beyond_square t n h =
-    let r = isqrt-below (size n) n in
+    let r = root_below (size n) n in
     let w = twice n in
     elim (eq-zero-or-pos (t - r)) [
       | inl e ↦ let l : r ≤ t = omega arith in omega (arith, w.exact (omega arith), mul-le-mul l l)
       | inr p ↦ let l : r + 1 ≤ t = omega arith in omega (arith, mul-le-mul l l)
     ]
 
-pub of_beyond : (t n : ℕ) → n ≤ t * t → twice-sqrt-sticky n ≤ 2 * t
+pub of_beyond : (t n : ℕ) → n ≤ t * t → root_twice n ≤ 2 * t
 of_beyond t n h =
-    let r = isqrt-below (size n) n in
+    let r = root_below (size n) n in
     let w = twice n in
-    elim (eq-zero-or-pos (twice-sqrt-sticky n - 2 * r)) [
+    elim (eq-zero-or-pos (root_twice n - 2 * r)) [
       | inl e ↦ let l : r < t + 1 = lt_of_squares r (t + 1) (omega arith) in omega arith
       | inr p ↦ let l : r < t = lt_of_squares r t (omega (arith, w.inexact (omega arith))) in omega arith
     ]
@@ -93,16 +93,16 @@ module _ (w q : ℕ) (W : 0 < w) where
   apart : n ≡ 4 * q * (w * w)
   apart = mul_right_comm 4 (w * w) q
 
-  pub scaled_within : (M : ℕ) → M * (2 * w) ≤ twice-sqrt-sticky n → M * M ≤ 4 * q
+  pub scaled_within : (M : ℕ) → M * (2 * w) ≤ root_twice n → M * M ≤ 4 * q
   scaled_within M h = le_of_mul-le-mul_right (le_trans (le_of_eq (sym (squared M))) (le_trans (within_square (M * w) n (le_trans (le_of_eq (twofold M)) h)) (le_of_eq apart))) (mul-pos W W)
 
-  pub of_scaled_within : (M : ℕ) → M * M ≤ 4 * q → M * (2 * w) ≤ twice-sqrt-sticky n
+  pub of_scaled_within : (M : ℕ) → M * M ≤ 4 * q → M * (2 * w) ≤ root_twice n
   of_scaled_within M h = le_trans (le_of_eq (sym (twofold M))) (of_within (M * w) n (le_trans (le_of_eq (squared M)) (le_trans (mul-le-mul_right (w * w) h) (le_of_eq (sym apart)))))
 
-  pub scaled_beyond : (M : ℕ) → twice-sqrt-sticky n ≤ M * (2 * w) → 4 * q ≤ M * M
+  pub scaled_beyond : (M : ℕ) → root_twice n ≤ M * (2 * w) → 4 * q ≤ M * M
   scaled_beyond M h = le_of_mul-le-mul_right (le_trans (le_of_eq (sym apart)) (le_trans (beyond_square (M * w) n (le_trans h (le_of_eq (sym (twofold M))))) (le_of_eq (squared M)))) (mul-pos W W)
 
-  pub of_scaled_beyond : (M : ℕ) → 4 * q ≤ M * M → twice-sqrt-sticky n ≤ M * (2 * w)
+  pub of_scaled_beyond : (M : ℕ) → 4 * q ≤ M * M → root_twice n ≤ M * (2 * w)
   of_scaled_beyond M h = le_trans (of_beyond (M * w) n (le_trans (le_of_eq apart) (le_trans (mul-le-mul_right (w * w) h) (le_of_eq (sym (squared M)))))) (le_of_eq (twofold M))
 
 -- ---- the root of a number of p digits, with zeros after them, is such a number if it is whole

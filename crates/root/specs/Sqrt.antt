@@ -4,12 +4,13 @@ use Rattle.std.specs.Float.Ieee.{up, down, round, fits, lt, le}
 use Rattle.std.specs.Float.Ieee.Positive.{num, den, positive}
 use Rattle.std.specs.Float.Ieee.Scale.{finite}
 use Rattle.std.specs.Float as Floats
-use Rattle.std.specs.Float.{twice-sqrt-sticky, Format, nan, inf, fin}
+use Rattle.std.specs.Float.Ieee.{root_twice}
+use Rattle.std.specs.Float.{Format, nan, inf, fin}
 
 -- The root of a / b, rounded once. `root_twice n` is twice the root of n where that is whole, and otherwise the odd number between twice its whole
 -- neighbours. So the root is taken to 2271 binary places, far more than a format tells apart, and half a place more says that it goes on.
 abbrev pub root_of : Format → ℕ → ℕ → Float
-root_of f a b = round f false (twice-sqrt-sticky (a * 2 ^ 4542 / b)) (2 ^ 2272)
+root_of f a b = round f false (root_twice (a * 2 ^ 4542 / b)) (2 ^ 2272)
 
 -- The root of x. NaN, +infinity and either zero come back as they are; below zero, and at -infinity, there is no root, which is NaN.
 unfoldable pub sqrt_of : Format → Float → Float

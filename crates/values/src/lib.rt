@@ -43,7 +43,7 @@ pub struct Known {
 }
 
 fn row(function: Function, argument: u64, res: u64) -> Known
-    ensures* { λ r. ⌜ r ≡ record { function = function; argument = argument; result = res } ⌝ }
+    ensures { result ≡ record { function = function; argument = argument; result = res } }
 {
     Known {
         function,

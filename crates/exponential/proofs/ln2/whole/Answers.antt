@@ -4,16 +4,16 @@ use Rattle.exponential.specs.Ln2.{double}
 use Rattle.exponential.proofs.Reach.{Counted, inside_i64, counted, double_reach}
 use Rattle.exponential.proofs.ln2.whole.Goals as goal
 
-pub truncating-f64-to-i64-requires : goal.truncating-f64-to-i64-requires
-truncating-f64-to-i64-requires c =
-    let b = inside_i64 double 1076 double_reach c.args.x c.half-like.result c.half-like.ensures c.requires in
-    record { lower-bound = b.0; upper-bound = b.1 }
+pub truncating_f64_to_i64-requires : goal.truncating_f64_to_i64-requires
+truncating_f64_to_i64-requires c =
+    let b = inside_i64 double 1076 double_reach c.args.x c.half_like.result c.half_like.ensures c.requires in
+    record { lower_bound = b.0; upper_bound = b.1 }
 
-count_is : (c : goal.After-truncating-f64-to-i64) → Counted double 1076 c.args.x c.truncating-f64-to-i64.result
-count_is c = counted double 1076 double_reach c.args.x c.half-like.result c.half-like.ensures c.requires c.truncating-f64-to-i64.result c.truncating-f64-to-i64.ensures
+count_is : (c : goal.After-truncating_f64_to_i64) → Counted double 1076 c.args.x c.truncating_f64_to_i64.result
+count_is c = counted double 1076 double_reach c.args.x c.half_like.result c.half_like.ensures c.requires c.truncating_f64_to_i64.result c.truncating_f64_to_i64.ensures
 
-pub overflow-cast-result : goal.overflow-cast-result
-overflow-cast-result c = let k = count_is c in omega (arith, ints)
+pub overflow_cast-result : goal.overflow_cast-result
+overflow_cast-result c = let k = count_is c in omega (arith, ints)
 
 pub returns : goal.returns
 returns c = let k = count_is c in omega (arith, ints)

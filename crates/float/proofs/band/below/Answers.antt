@@ -9,5 +9,5 @@ pub returns-then-h-lt-INFINITE : goal.returns-then-h-lt-INFINITE
 returns-then-h-lt-INFINITE c =
     let h = c.args.h in
     let x = c.args.x in
-    ap (λ (w : ℕ). ltb w h) c.high-word.ensures ∙ high_is x h (subst T (sym c.well-formed.0.1) tt) c.if-h-lt-INFINITE.true
+    ap (λ (w : ℕ). ltb w h) c.high_word.ensures ∙ high_is x h (subst T (sym c.well_formed.0.1) tt) c.if-h-lt-INFINITE.true
     ∙ guarded h 0x7ff00000 (below_bits binary64 x (h * 2 ^ 32)) c.if-h-lt-INFINITE.true

@@ -5,9 +5,9 @@ use Rattle.float.specs.Band.{below_bits}
 use Rattle.float.proofs.Bands.{guarded}
 use Rattle.float.proofs.band.belowf.Goals as goal
 
-pub returns-then-b-lt-INFINITE-F32 : goal.returns-then-b-lt-INFINITE-F32
-returns-then-b-lt-INFINITE-F32 c =
+pub returns-then-b-lt-INFINITE_F32 : goal.returns-then-b-lt-INFINITE_F32
+returns-then-b-lt-INFINITE_F32 c =
     let b = c.args.b in
     let x = c.args.x in
-    ap (λ (w : ℕ). ltb w b) c.size-word.ensures ∙ bits_is binary32 x b (subst T (sym c.well-formed.0.1) tt) c.if-b-lt-INFINITE-F32.true
-    ∙ guarded b 0x7f800000 (below_bits binary32 x b) c.if-b-lt-INFINITE-F32.true
+    ap (λ (w : ℕ). ltb w b) c.size_word.ensures ∙ bits_is binary32 x b (subst T (sym c.well_formed.0.1) tt) c.if-b-lt-INFINITE_F32.true
+    ∙ guarded b 0x7f800000 (below_bits binary32 x b) c.if-b-lt-INFINITE_F32.true

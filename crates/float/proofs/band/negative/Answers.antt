@@ -9,5 +9,5 @@ no_sign nan h = refl
 no_sign (inf s) h = absurd (true≢false (sym h))
 no_sign (fin s m e) h = absurd (true≢false (sym h))
 
-pub returns-then-is-nan : goal.returns-then-is-nan
-returns-then-is-nan c = no_sign c.args.x (sym c.is-nan.ensures.value ∙ c.if-is-nan.true)
+pub returns-then-is_nan : goal.returns-then-is_nan
+returns-then-is_nan c = no_sign c.args.x (sym c.is_nan.ensures.value ∙ c.if-is_nan.true)

@@ -6,8 +6,8 @@ use Rattle.hyperbolic.specs.Cosh.{cosh_of, bands_of}
 use Rattle.hyperbolic.proofs.Special.{cosh_bands}
 use Rattle.hyperbolic.proofs.cosh.cosh.Goals as goal
 
-pub returns-then-is-nan : goal.returns-then-is-nan
-returns-then-is-nan c = nan_stays cosh_of (unfold cosh_of in refl) c.args.x c.if-is-nan.ensures.value
+pub returns-then-is_nan : goal.returns-then-is_nan
+returns-then-is_nan c = nan_stays cosh_of (unfold cosh_of in refl) c.args.x c.if-is_nan.ensures.value
 
-pub returns-else-is-nan : goal.returns-else-is-nan
-returns-else-is-nan c = c.banded.ensures ∙ agree binary64 bands_of cosh_of cosh_bands c.args.x (subst T (sym c.well-formed.0.1) tt) c.if-is-nan.ensures.not-nan
+pub returns-else-is_nan : goal.returns-else-is_nan
+returns-else-is_nan c = c.banded.ensures ∙ agree binary64 bands_of cosh_of cosh_bands c.args.x (subst T (sym c.well_formed.0.1) tt) c.if-is_nan.ensures.not_nan

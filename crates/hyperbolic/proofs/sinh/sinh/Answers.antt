@@ -7,8 +7,8 @@ use Rattle.hyperbolic.proofs.Oddness.{sinh_odd}
 use Rattle.hyperbolic.proofs.Special.{sinh_bands}
 use Rattle.hyperbolic.proofs.sinh.sinh.Goals as goal
 
-pub returns-then-is-nan : goal.returns-then-is-nan
-returns-then-is-nan c = record { value = nan_stays sinh_of (unfold sinh_of in refl) c.args.x c.if-is-nan.ensures.value; odd = sinh_odd }
+pub returns-then-is_nan : goal.returns-then-is_nan
+returns-then-is_nan c = record { value = nan_stays sinh_of (unfold sinh_of in refl) c.args.x c.if-is_nan.ensures.value; odd = sinh_odd }
 
-pub returns-else-is-nan : goal.returns-else-is-nan
-returns-else-is-nan c = record { value = c.banded.ensures ∙ agree binary64 bands_of sinh_of sinh_bands c.args.x (subst T (sym c.well-formed.0.1) tt) c.if-is-nan.ensures.not-nan; odd = sinh_odd }
+pub returns-else-is_nan : goal.returns-else-is_nan
+returns-else-is_nan c = record { value = c.banded.ensures ∙ agree binary64 bands_of sinh_of sinh_bands c.args.x (subst T (sym c.well_formed.0.1) tt) c.if-is_nan.ensures.not_nan; odd = sinh_odd }

@@ -6,8 +6,8 @@ use Rattle.inverse.specs.Acosh.{acosh_of, tests_of}
 use Rattle.inverse.proofs.Special.{acosh_tests}
 use Rattle.inverse.proofs.acosh.acosh.Goals as goal
 
-pub returns-then-is-nan : goal.returns-then-is-nan
-returns-then-is-nan c = nan_stays acosh_of (unfold acosh_of in refl) c.args.x c.if-is-nan.ensures.value
+pub returns-then-is_nan : goal.returns-then-is_nan
+returns-then-is_nan c = nan_stays acosh_of (unfold acosh_of in refl) c.args.x c.if-is_nan.ensures.value
 
-pub returns-else-is-nan : goal.returns-else-is-nan
-returns-else-is-nan c = c.tested.ensures ∙ agree binary64 tests_of acosh_of acosh_tests c.args.x (subst T (sym c.well-formed.0.1) tt) c.if-is-nan.ensures.not-nan
+pub returns-else-is_nan : goal.returns-else-is_nan
+returns-else-is_nan c = c.tested.ensures ∙ agree binary64 tests_of acosh_of acosh_tests c.args.x (subst T (sym c.well_formed.0.1) tt) c.if-is_nan.ensures.not_nan

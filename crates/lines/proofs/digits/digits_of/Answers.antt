@@ -7,8 +7,8 @@ use Rattle.lines.proofs.digits.digits_of.Goals as goal
 pub loop-place-preserved : goal.loop-place-preserved
 loop-place-preserved c =
     ap (λ l. l ++ written (c.loop-place.place - 1) c.args.n) c.push.ensures
-    ∙ write_more c.loop-place.place (c.loop-place.place - 1) c.args.places c.args.n c.digit-at.result (held c.loop-place.digits)
+    ∙ write_more c.loop-place.place (c.loop-place.place - 1) c.args.places c.args.n c.digit_at.result (held c.loop-place.digits)
     (omega (arith, c.loop-place-test.true))
     c.requires
-    c.digit-at.ensures
+    c.digit_at.ensures
     c.loop-place.invariant

@@ -4,17 +4,17 @@ use Rattle.lines.specs.Digits.{all_digits, spelled}
 use Rattle.lines.proofs.Spelling.{below_more, fits_digits, spell_more, all_more, spell_end}
 use Rattle.lines.proofs.digits.number.Goals as goal
 
-pub with-digit-n-requires : goal.with-digit-n-requires
-with-digit-n-requires c =
+pub with_digit-n-requires : goal.with_digit-n-requires
+with_digit-n-requires c =
     fits_digits _ (c.loop-byte.byte-index + 1)
     (below_more _ _ _ _ c.loop-byte.invariant.0 c.in-Some.ensures.1.1 refl)
     (omega (arith, c.loop-byte-test.true, c.requires))
 
 pub loop-byte-preserved : goal.loop-byte-preserved
 loop-byte-preserved c = (
-  below_more _ _ _ _ c.loop-byte.invariant.0 c.in-Some.ensures.1.1 c.with-digit-n.ensures,
+  below_more _ _ _ _ c.loop-byte.invariant.0 c.in-Some.ensures.1.1 c.with_digit-n.ensures,
   (
-    spell_more _ _ _ _ c.loop-byte-test.true _ _ c.in-Some.ensures.1.0 c.with-digit-n.ensures c.loop-byte.invariant.1.0,
+    spell_more _ _ _ _ c.loop-byte-test.true _ _ c.in-Some.ensures.1.0 c.with_digit-n.ensures c.loop-byte.invariant.1.0,
     all_more _ true _ _ c.loop-byte-test.true c.in-Some.ensures.0 c.loop-byte.invariant.1.1,
   ),
 )

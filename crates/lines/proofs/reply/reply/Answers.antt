@@ -6,10 +6,10 @@ use Rattle.lines.proofs.Answered.{answers}
 use Rattle.lines.proofs.Reading.{line_feed_fits}
 use Rattle.lines.proofs.reply.reply.Goals as goal
 
-printed : (c : goal.After-with-line-feed) → held c.with-line-feed.result ≡ reply_to c.args.line.now
+printed : (c : goal.After-with_line_feed) → held c.with_line_feed.result ≡ reply_to c.args.line.now
 unfolding reply_to
 printed c =
-    c.with-line-feed.ensures
+    c.with_line_feed.ensures
     ∙ (ap (λ l. take 17 (l ++ 10 ∷ [])) c.answer.ensures.value ∙ line_feed_fits (question_in c.args.line.now))
 
 pub returns : goal.returns

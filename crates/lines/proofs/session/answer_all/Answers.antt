@@ -8,10 +8,10 @@ use Rattle.lines.proofs.session.answer_all.Goals as goal
 pub loop-byte-preserved : goal.loop-byte-preserved
 loop-byte-preserved c =
     feed_more c.args.input.now c.loop-byte.byte-index (begun c.loop-byte.session) (vec_items c.loop-byte.printed)
-    (vec_items c.add-reply.new.printed)
+    (vec_items c.add_reply.new.printed)
     (printed_for c.args.input.now)
     (option_map held c.feed.result)
-    c.in-ok-add-reply.ensures
+    c.in_ok-add_reply.ensures
     c.loop-byte.invariant
     (begun c.feed.new.self)
     c.loop-byte-test.true
@@ -21,10 +21,10 @@ loop-byte-preserved c =
 pub returns : goal.returns
 returns c =
     feed_end c.args.input.now c.loop-byte.byte-index (begun c.loop-byte.session) (vec_items c.loop-byte.printed)
-    (vec_items c.add-reply-2.new.printed)
+    (vec_items c.add_reply-2.new.printed)
     (printed_for c.args.input.now)
     (option_map held c.finish.result)
-    c.in-ok-add-reply-2.ensures
+    c.in_ok-add_reply-2.ensures
     c.loop-byte.invariant
     c.loop-byte-test.false
     c.finish.ensures

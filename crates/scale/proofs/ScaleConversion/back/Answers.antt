@@ -6,12 +6,12 @@ use Rattle.scale.specs.Scales.{scaling}
 use Rattle.scale.specs.Laws.{scaling_sound}
 use Rattle.scale.proofs.ScaleConversion.back.Goals as goal
 
-pub returns-then-takes-back : goal.returns-then-takes-back
-returns-then-takes-back c =
+pub returns-then-takes_back : goal.returns-then-takes_back
+returns-then-takes_back c =
     let s = c.args.self.now.exponent in
     let x = c.args.x in
     let y = c.lowered.result in
-    let taken = sym c.if-takes-back.ensures in
+    let taken = sym c.if-takes_back.ensures in
     record {
       answer = back_answer_lem (floats binary64) (scaling binary64 s) x y taken c.lowered.ensures;
       within = back_within (floats binary64) (scaling binary64 s) x y (scaling_sound binary64 s) taken c.lowered.ensures;

@@ -6,12 +6,12 @@ use Rattle.scale.specs.Scales.{scaling}
 use Rattle.scale.specs.Laws.{scaling_sound}
 use Rattle.scale.proofs.ScaleConversion.on.Goals as goal
 
-pub returns-then-is-number : goal.returns-then-is-number
-returns-then-is-number c =
+pub returns-then-is_number : goal.returns-then-is_number
+returns-then-is_number c =
     let s = c.args.self.now.exponent in
     let x = c.args.x in
     let y = c.raised.result in
-    let number = sym c.if-is-number.ensures in
+    let number = sym c.if-is_number.ensures in
     record {
       answer = on_answer_lem (floats binary64) (scaling binary64 s) x y number c.raised.ensures;
       within = on_within (floats binary64) (scaling binary64 s) x y (scaling_sound binary64 s) number c.raised.ensures;

@@ -7,8 +7,8 @@ use Rattle.single.specs.Expm1f.{single, expm1f_of}
 use Rattle.single.proofs.Special.{expm1f_bands}
 use Rattle.single.proofs.expm1f.expm1f.Goals as goal
 
-pub returns-then-is-nan : goal.returns-then-is-nan
-returns-then-is-nan c = nan_stays expm1f_of (unfold expm1f_of in refl) c.args.x c.if-is-nan.ensures.value
+pub returns-then-is_nan : goal.returns-then-is_nan
+returns-then-is_nan c = nan_stays expm1f_of (unfold expm1f_of in refl) c.args.x c.if-is_nan.ensures.value
 
-pub returns-else-is-nan : goal.returns-else-is-nan
-returns-else-is-nan c = c.banded.ensures ∙ agree binary32 (bands_of single) expm1f_of expm1f_bands c.args.x (subst T (sym c.well-formed.0.1) tt) c.if-is-nan.ensures.not-nan
+pub returns-else-is_nan : goal.returns-else-is_nan
+returns-else-is_nan c = c.banded.ensures ∙ agree binary32 (bands_of single) expm1f_of expm1f_bands c.args.x (subst T (sym c.well_formed.0.1) tt) c.if-is_nan.ensures.not_nan

@@ -7,8 +7,8 @@ use Rattle.single.specs.Log1pf.{single, log1pf_of}
 use Rattle.single.proofs.Special.{log1pf_tests}
 use Rattle.single.proofs.log1pf.log1pf.Goals as goal
 
-pub returns-then-is-nan : goal.returns-then-is-nan
-returns-then-is-nan c = nan_stays log1pf_of (unfold log1pf_of in refl) c.args.x c.if-is-nan.ensures.value
+pub returns-then-is_nan : goal.returns-then-is_nan
+returns-then-is_nan c = nan_stays log1pf_of (unfold log1pf_of in refl) c.args.x c.if-is_nan.ensures.value
 
-pub returns-else-is-nan : goal.returns-else-is-nan
-returns-else-is-nan c = c.tested.ensures ∙ agree binary32 (tests_of single) log1pf_of log1pf_tests c.args.x (subst T (sym c.well-formed.0.1) tt) c.if-is-nan.ensures.not-nan
+pub returns-else-is_nan : goal.returns-else-is_nan
+returns-else-is_nan c = c.tested.ensures ∙ agree binary32 (tests_of single) log1pf_of log1pf_tests c.args.x (subst T (sym c.well_formed.0.1) tt) c.if-is_nan.ensures.not_nan

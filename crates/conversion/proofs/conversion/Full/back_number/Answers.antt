@@ -1,8 +1,8 @@
 use Rattle.conversion.specs.Layers.{full_back, full_gives}
 use Rattle.conversion.proofs.conversion.Full.back_number.Goals as goal
 
-pub returns-then-is-number : goal.returns-then-is-number
-returns-then-is-number g c =
+pub returns-then-is_number : goal.returns-then-is_number
+returns-then-is_number g c =
     let k = g.Self.Figure.Kind.means in
     let self = c.args.self.now in
     let rule = g.Self.Conversion.rule self in

@@ -5,7 +5,7 @@ use Rattle.lines.proofs.function.Function.named.Goals as goal
 
 pub returns-then-name-eq1 : goal.returns-then-name-eq1
 returns-then-name-eq1 c =
-    c.by-letter.ensures
+    c.by_letter.ensures
     ∙ ap (λ name. first_named functions name) (of_one_letter c.args.name.now c.if-name-eq1.true)
 
 pub returns-else-name-eq1 : goal.returns-else-name-eq1

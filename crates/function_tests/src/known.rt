@@ -17,12 +17,12 @@ fn rows(rt: HostRuntime) {
 fn printed(rt: HostRuntime) {
     assert_eq!(rt;
         reply(b"T c089000000000000").as_slice(),
-        b"bff0000000000000\n"
+        b"bff0000000000000\n".as_slice()
     );
     assert_eq!(rt;
         reply(b"c c180000000000000").as_slice(),
-        b"7ff8000000000000\n"
+        b"7ff8000000000000\n".as_slice()
     );
-    assert_eq!(rt; reply(b"S 7ff").as_slice(), b"? 14\n");
-    assert_eq!(rt; reply(b"F c1a00000").as_slice(), b"bf800000\n");
+    assert_eq!(rt; reply(b"S 7ff").as_slice(), b"? 14\n".as_slice());
+    assert_eq!(rt; reply(b"F c1a00000").as_slice(), b"bf800000\n".as_slice());
 }
