@@ -1,5 +1,5 @@
 -- exp of an f64: special values, then the method, each step rounded once.
-use Rattle.std.specs.Prelude.{ℕ, zero, suc, Bool, true, false, cond, List, [], ◌∷◌, ℤ, pos, from_bits, Float}
+use Rattle.std.specs.Prelude.{ℕ, zero, suc, true, false, cond, List, [], ◌∷◌, ℤ, pos, from_bits, Float}
 use Rattle.std.specs.Float.{nan, inf, fin, binary64}
 use Rattle.std.specs.Float.Ieee.{lt}
 use Rattle.float.specs.Band.{below_bits}

@@ -1,7 +1,7 @@
 -- exp(x) - 1: special values, then the method, each step rounded once.
-use Rattle.std.specs.Prelude.{ℕ, zero, suc, Bool, true, false, cond, not, ◌&&◌, ◌||◌, List, [], ◌∷◌, ℤ, pos, negsuc, ◌-ℤ◌, from_bits, int_lt, Float}
+use Rattle.std.specs.Prelude.{ℕ, zero, suc, true, false, cond, not, ◌&&◌, ◌||◌, List, [], ◌∷◌, ℤ, pos, negsuc, ◌-ℤ◌, from_bits, int_lt, Float}
 use Rattle.std.specs.Float.Ieee.{add, sub, mul, div, lt}
-use Rattle.std.specs.Float.{is_sign_negative, Format, nan, inf, fin, binary64}
+use Rattle.std.specs.Float.{is_sign_negative, Format, nan, inf, fin}
 use Rattle.float.specs.Band.{below_bits}
 use Rattle.float.specs.Constants.{one, two, three, six, half, minus_one, minus_two, minus_quarter, infinity}
 use Rattle.float.specs.Polynomial.{horner}

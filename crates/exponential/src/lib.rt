@@ -1,4 +1,6 @@
 //! exp and expm1, each equal to its definition in specs/ for every f64.
+#![tactic(auto)]
+
 pub mod exp;
 pub mod expm1;
 mod ln2;

@@ -1,14 +1,14 @@
 -- What expm1 is, band by band, over the constants of a format: tests become bounds on x. Every law goes through this. Assumes nothing.
-use Rattle.std.proofs.Common.{◌≡◌, ℕ, suc, ◌*◌, ◌<◌, ◌≤◌, Bool, true, false, cond, not, ◌&&◌, T, leb, ℤ, pos, negsuc, sym, refl, ◌∙◌, subst, true≢false, arith, leb→le, T_not}
-use lib.Ieee.{Float, Format, ones, hid, neg, le, lt, is_nan, fits, of_bits}
+use Rattle.std.proofs.Common.{◌≡◌, ℕ, suc, ◌*◌, ◌<◌, ◌≤◌, Bool, true, false, cond, not, ◌&&◌, T, leb, ℤ, pos, negsuc, sym, refl, ◌∙◌, subst, true≢false, arith, leb→le}
+use lib.Ieee.{Float, ones, hid, le, lt, is_nan, fits, of_bits}
 use lib.Ieee.Positive.{positive}
 use Rattle.std.specs.Float.{is_sign_negative}
-use Rattle.numeric.proofs.Rounding.{and_l, and_r, and_i, le_trans_f}
+use Rattle.numeric.proofs.Rounding.{and_l, and_r, le_trans_f}
 use Rattle.numeric.proofs.Cases.{Agree, agree}
 use Rattle.numeric.proofs.Intervals.{mk, In}
 use Rattle.numeric.proofs.Order.{lt-le, not_lt-le}
 use Rattle.numeric.proofs.Split.{Sizes}
-use Rattle.numeric.proofs.Tests.{by_cases, is_on, is_off, on, off}
+use Rattle.numeric.proofs.Tests.{by_cases, is_on, on, off}
 use Rattle.numeric.proofs.Words.{mag, mag_plain, not_below, above_plain}
 use Rattle.float.specs.Band.{below_bits}
 use Rattle.float.specs.Constants.{minus_one, infinity}

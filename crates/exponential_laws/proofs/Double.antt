@@ -1,7 +1,6 @@
 -- What is computed of the constants of expm1 for an f64. Assumes nothing.
 use Rattle.std.proofs.Common.{T, refl, lit<}
-use lib.Ieee.{add, sub, mul, div, neg, le, lt, round, is_nan, of_bits}
-use Rattle.std.specs.Float.{is_sign_negative, float_with_sign}
+use lib.Ieee.{add, sub, mul, div, neg, le, round, is_nan, of_bits}
 use Rattle.numeric.proofs.Tests.{every}
 use Rattle.exponential.specs.Expm1.{double, expm1_of}
 use Rattle.exponential.proofs.Special.{expm1_bands}

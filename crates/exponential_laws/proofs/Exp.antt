@@ -1,5 +1,5 @@
 -- What exp is, band by band, and where its values lie. Assumes nothing.
-use Rattle.std.proofs.Common.{◌≡◌, ℕ, zero, suc, ◌+◌, ◌*◌, ◌^◌, ◌≤◌, Bool, true, false, cond, not, T, leb, List, [], ◌∷◌, ℤ, pos, negsuc, sym, refl, subst, suc-le-suc, zero-le, le_of_suc-le-suc, arith, lit<, leb→le, pow_mono}
+use Rattle.std.proofs.Common.{◌≡◌, ℕ, zero, suc, ◌+◌, ◌*◌, ◌^◌, ◌≤◌, true, false, cond, not, T, leb, [], ◌∷◌, ℤ, pos, negsuc, sym, refl, subst, suc-le-suc, zero-le, le_of_suc-le-suc, arith, leb→le, pow_mono}
 use lib.Ieee.{Float, fin, binary64, neg, add, sub, mul, div, le, lt, is_nan, fits, of_bits, of_int, round}
 use lib.Ieee.Scale.{finite}
 use lib.Ieee.Positive.{positive}
@@ -7,10 +7,10 @@ use Rattle.std.specs.Float.{is_sign_negative, float_with_sign}
 use Rattle.numeric.proofs.Rounding.{and_l, le_of_Le, le_trans_f, neg-le, neg-neg}
 use Rattle.numeric.proofs.Operations.{mul_mono_l, mul_mono_r}
 use Rattle.numeric.proofs.Cases.{agree}
-use Rattle.numeric.proofs.Intervals.{Itv, mk, In, finite_between}
+use Rattle.numeric.proofs.Intervals.{mk, In, finite_between}
 use Rattle.numeric.proofs.Programs.{Code, at, lit, plus, minus, times, over, bind, span, fits_in, bounded, bounded_all}
 use Rattle.numeric.proofs.Order.{zero_f, number_above, le_apart, lt-le, not_lt-le, mul_nonneg}
-use Rattle.numeric.proofs.Split.{Parts, around}
+use Rattle.numeric.proofs.Split.{around}
 use Rattle.numeric.proofs.Tests.{by_cases}
 use Rattle.numeric.proofs.Words.{mag, mag_in, mag_between, mag_plain, mag_turned, mag_zero, above_plain}
 use Rattle.float.specs.Band.{below_bits}

@@ -1,13 +1,13 @@
 -- The laws of expm1 for an f64, and what the functions above it need: the values of small arguments. Assumes nothing.
-use Rattle.std.proofs.Common.{◌≡◌, ℕ, zero, suc, ◌≤◌, Bool, true, false, not, T, List, [], ◌∷◌, pos, negsuc, sym, refl, subst, inl, inr, arith}
-use lib.Ieee.{Float, fin, binary64, neg, add, sub, mul, div, le, lt, is_nan, fits, of_bits, of_int, round}
+use Rattle.std.proofs.Common.{◌≡◌, ℕ, zero, suc, ◌≤◌, Bool, true, false, not, T, [], ◌∷◌, pos, negsuc, sym, refl, subst, inl, inr, arith}
+use lib.Ieee.{Float, fin, binary64, neg, add, sub, mul, div, le, is_nan, fits, of_bits, of_int, round}
 use lib.Ieee.Scale.{finite}
 use Rattle.std.specs.Float.{is_sign_negative}
 use Rattle.numeric.proofs.Rounding.{le_trans_f}
 use Rattle.numeric.proofs.Intervals.{mk, In, finite_between}
 use Rattle.numeric.proofs.Programs.{Code, at, lit, plus, minus, times, bind, span, fits_in, bounded, bounded_all}
 use Rattle.numeric.proofs.Order.{zero_f, total, number_above, le_apart, lt-le}
-use Rattle.numeric.proofs.Split.{Parts, around}
+use Rattle.numeric.proofs.Split.{around}
 use Rattle.numeric.proofs.Words.{mag, mag_plain, mag_zero, side_plain, side_turned}
 use Rattle.float.specs.Band.{below_bits}
 use Rattle.float.specs.Constants.{one, minus_one, plus_zero}
@@ -20,9 +20,9 @@ use Rattle.reduction_laws.proofs.Counting.{from, Reduced}
 use Rattle.reduction_laws.proofs.Double.{sizes}
 use Rattle.exponential_laws.specs.Laws.{Expm1Above, Expm1Rises, Expm1Finite}
 use Rattle.exponential_laws.proofs.Kernel.{half_f, minus_half_lem, low_f, high_f, corrected_code, pieces, plain_up_in, halved_in, doubled_in}
-use Rattle.exponential_laws.proofs.Ladder.{Up, largest, less_code, both, rebuilt_last_by}
-use Rattle.exponential_laws.proofs.Cases.{Cases, tiny_of, once_of, far_of, overflow_of, rebuilt_at}
-use Rattle.exponential_laws.proofs.Range.{Computed, both_signs, by_bands, up_cases, up_count, down_count, plain_low, above, rises, zero_or_plain}
+use Rattle.exponential_laws.proofs.Ladder.{Up, largest, less_code, rebuilt_last_by}
+use Rattle.exponential_laws.proofs.Cases.{tiny_of, once_of, far_of, overflow_of, rebuilt_at}
+use Rattle.exponential_laws.proofs.Range.{both_signs, by_bands, up_cases, up_count, down_count, plain_low, above, rises, zero_or_plain}
 use Rattle.exponential_laws.proofs.Double.{computed}
 
 -- the rest and the correction of x less k times ln 2

@@ -1,15 +1,14 @@
 -- The straight-line parts of expm1 as code, over the constants of a format, and the intervals that hold them. Assumes nothing.
-use Rattle.std.proofs.Common.{◌≡◌, ℕ, true, false, T, List, [], ◌∷◌, pos, negsuc, refl, ap, subst}
-use lib.Ieee.{Float, Format, fin, neg, add, sub, mul, div, le, lt, of_bits}
-use Rattle.numeric.proofs.Rounding.{le_trans_f}
+use Rattle.std.proofs.Common.{◌≡◌, ℕ, true, false, T, List, [], ◌∷◌, negsuc, refl, ap, subst}
+use lib.Ieee.{Float, Format, fin, neg, add, sub, mul, lt, of_bits}
 use Rattle.numeric.proofs.Intervals.{Itv, mk, In}
 use Rattle.numeric.proofs.Programs.{Code, at, lit, plus, minus, times, over, bind, fetch, eval, span, fits_in, bounded, bounded_all}
 use Rattle.numeric.proofs.Order.{zero_f}
-use Rattle.numeric.proofs.Split.{Sizes, Parts, around}
+use Rattle.numeric.proofs.Split.{Sizes, around}
 use Rattle.numeric.proofs.Tests.{by_cases}
 use Rattle.float.specs.Constants.{one, two, three, six, half, minus_two, minus_quarter}
 use Rattle.float.specs.Polynomial.{horner}
-use Rattle.exponential.specs.Expm1.{Expm1, square_of, kernel_of, error_from, error_of, corrected_of, unscaled, halved, doubled}
+use Rattle.exponential.specs.Expm1.{Expm1, square_of, error_from, error_of, corrected_of, unscaled, halved, doubled}
 
 -- a polynomial by Horner's rule, at the value that `at i` names
 abbrev pub horner_code : Format → List ℕ → ℕ → Code

@@ -1,9 +1,9 @@
 -- What expm1 makes of its pieces at each count: one computed test for every count. Assumes nothing.
-use Rattle.std.proofs.Common.{◌≡◌, ℕ, suc, ◌-◌, ◌*◌, ◌<◌, ◌≤◌, Bool, true, false, cond, ◌&&◌, ◌||◌, T, leb, List, [], ◌∷◌, ℤ, pos, negsuc, ◌-ℤ◌, sym, refl, subst, inl, inr, zero-add, arith, ltb→lt, lt→ltb, leb→le}
+use Rattle.std.proofs.Common.{ℕ, suc, ◌-◌, ◌*◌, ◌<◌, ◌≤◌, Bool, true, false, cond, ◌&&◌, ◌||◌, T, leb, List, [], ◌∷◌, ℤ, pos, negsuc, ◌-ℤ◌, refl, subst, inl, inr, zero-add, arith, ltb→lt, lt→ltb, leb→le}
 use lib.Signed.{lt_z}
 use lib.Ieee.{Float, Format, fin, ones, hid, neg, add, sub, mul, le, of_bits}
 use lib.Ieee.Scale.{finite}
-use Rattle.numeric.proofs.Rounding.{N, and_l, and_r, or_l, or_r, or_split, le_trans_f}
+use Rattle.numeric.proofs.Rounding.{and_l, and_r, or_r, or_split, le_trans_f}
 use Rattle.numeric.proofs.Operations.{mul_mono_l}
 use Rattle.numeric.proofs.Intervals.{Itv, mk, In, within, finite_between}
 use Rattle.numeric.proofs.Programs.{Code, at, lit, minus, times, span, fits_in, bounded}

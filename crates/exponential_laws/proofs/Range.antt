@@ -1,19 +1,19 @@
 -- Where the values of expm1 lie, over the constants of a format: each law is a property shown for each band. Assumes nothing.
-use Rattle.std.proofs.Common.{◌≡◌, ℕ, zero, suc, ◌+◌, ◌*◌, ◌<◌, ◌≤◌, Bool, true, false, not, T, ℤ, pos, negsuc, sym, refl, ◌∙◌, subst, inl, inr, true≢false, le_of_suc-le-suc, lt_irrefl, zero-lt-suc, eq-or-lt_of_le, mul-pos, arith}
-use lib.Ieee.{Float, Format, nan, inf, fin, up, down, neg, le, lt, is_nan, fits, of_bits}
+use Rattle.std.proofs.Common.{◌≡◌, ℕ, zero, suc, ◌+◌, ◌*◌, ◌<◌, ◌≤◌, Bool, true, false, not, T, ℤ, pos, negsuc, sym, refl, ◌∙◌, subst, inl, inr, true≢false, le_of_suc-le-suc, zero-lt-suc, eq-or-lt_of_le, mul-pos, arith}
+use lib.Ieee.{Float, nan, inf, fin, up, down, neg, le, lt, is_nan, fits}
 use lib.Ieee.Fits.{up_pos}
 use Rattle.std.specs.Float.{is_sign_negative}
 use Rattle.numeric.proofs.Rounding.{Le_of_le, le_trans_f, neg-le, neg-neg}
 use Rattle.numeric.proofs.Intervals.{mk, In}
 use Rattle.numeric.proofs.Order.{zero_f, number_above}
-use Rattle.numeric.proofs.Split.{Sizes, around}
-use Rattle.numeric.proofs.Words.{mag, mag_plain, mag_turned, mag_zero, mag_in, side_plain, side_turned}
+use Rattle.numeric.proofs.Split.{Sizes}
+use Rattle.numeric.proofs.Words.{mag, mag_turned, mag_zero, mag_in, side_plain, side_turned}
 use Rattle.float.specs.Constants.{minus_one, infinity}
 use Rattle.exponential.specs.Ln2.{high_rest, low_rest}
 use Rattle.exponential.specs.Expm1.{Expm1, unscaled, value_of}
 use Rattle.reduction_laws.proofs.Counting.{from, Table, Reduced, count_under}
 use Rattle.exponential_laws.proofs.Kernel.{F, Kernel, half_f, minus_half_lem, plain_in, plain_up_in}
-use Rattle.exponential_laws.proofs.Ladder.{Ladder, Up, Down, minus_one_f, largest, rebuilt_up, rebuilt_last, rebuilt_down}
+use Rattle.exponential_laws.proofs.Ladder.{Ladder, Up, minus_one_f, largest, rebuilt_up, rebuilt_last, rebuilt_down}
 use Rattle.exponential_laws.proofs.Cases.{Ends, Cases, tiny_of, once_of, far_of, overflow_of, rebuilt_at, value_cases}
 
 pub both_signs : (x : Float) {A : Type 0} → is_sign_negative x ≡ false → is_sign_negative x ≡ true → A

@@ -1,8 +1,7 @@
 -- sinh and tanh are odd. Assumes nothing.
 use Rattle.std.proofs.Common.{◌≡◌, ℕ, zero, suc, Bool, true, false, cond, ℤ, sym, refl, ap, ◌∙◌}
-use lib.Ieee.{Float, nan, inf, fin, binary64, neg, mul, of_bits}
+use lib.Ieee.{Float, nan, inf, fin, binary64, neg, of_bits}
 use Rattle.std.specs.Float.{is_sign_negative, float_with_sign}
-use Rattle.numeric.proofs.Rounding.{neg-neg}
 use Rattle.numeric.proofs.Signs.{neg-mul, mul-neg, by_size_odd, cond_neg}
 use Rattle.float.specs.Band.{below_bits}
 use Rattle.float.specs.Constants.{two}

@@ -1,6 +1,6 @@
 -- At the special values the bands give what the definitions say first. Assumes nothing.
 use Rattle.std.proofs.Common.{◌≡◌, Bool, true, false, pos, refl}
-use lib.Ieee.{Float, fin, add, sub, mul, div, neg, lt, of_bits}
+use lib.Ieee.{fin, add, sub, mul, div, neg, lt, of_bits}
 use Rattle.std.specs.Float.{is_sign_negative, float_with_sign}
 use Rattle.numeric.proofs.Cases.{Agree}
 use Rattle.exponential.specs.Exp.{exp_of}

@@ -1,6 +1,6 @@
 -- cosh of a number is at least 1, band by band. Assumes nothing.
 use Rattle.std.proofs.Common.{◌≡◌, true, false, cond, not, T, [], ◌∷◌, pos, negsuc, sym, refl, subst, inl, inr, lit<}
-use lib.Ieee.{Float, nan, inf, fin, binary64, neg, add, sub, mul, div, le, is_nan, fits, of_bits, round}
+use lib.Ieee.{Float, nan, inf, fin, binary64, add, mul, div, le, is_nan, fits, of_bits}
 use lib.Ieee.Scale.{finite}
 use Rattle.numeric.proofs.Rounding.{le_trans_f}
 use Rattle.numeric.proofs.Operations.{add_mono, mul_mono_r, div_mono_l, div_anti_r}

@@ -1,13 +1,13 @@
 -- sinh of a number is a number: below its switch expm1 is finite and not negative. Assumes nothing.
-use Rattle.std.proofs.Common.{◌≡◌, true, false, cond, not, T, [], ◌∷◌, pos, negsuc, sym, refl, subst, lit<}
-use lib.Ieee.{Float, fin, binary64, neg, add, sub, mul, div, le, is_nan, fits, of_bits, round}
+use Rattle.std.proofs.Common.{◌≡◌, true, false, cond, T, [], ◌∷◌, pos, negsuc, sym, refl, subst, lit<}
+use lib.Ieee.{Float, fin, binary64, neg, add, sub, mul, div, le, of_bits, round}
 use lib.Ieee.Scale.{finite}
 use Rattle.std.specs.Float.{is_sign_negative}
 use Rattle.numeric.proofs.Rounding.{le_trans_f}
 use Rattle.numeric.proofs.Cases.{agree}
 use Rattle.numeric.proofs.Intervals.{mk, In, finite_between}
 use Rattle.numeric.proofs.Programs.{Code, at, lit, plus, minus, times, over, span, fits_in, bounded}
-use Rattle.numeric.proofs.Order.{zero_f, number_above, finite_number, lt-le}
+use Rattle.numeric.proofs.Order.{zero_f, number_above, lt-le}
 use Rattle.numeric.proofs.Numbers.{add_number, mul_number, inf_le}
 use Rattle.numeric.proofs.Tests.{by_cases}
 use Rattle.numeric.proofs.Words.{mag, mag_sign, mag_fits, mag_number, not_below}

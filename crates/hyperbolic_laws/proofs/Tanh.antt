@@ -1,5 +1,5 @@
 -- tanh stays within -1 and 1: each band from what expm1 gives there. Assumes nothing.
-use Rattle.std.proofs.Common.{◌≡◌, ℕ, ◌<◌, true, false, cond, not, T, [], ◌∷◌, pos, negsuc, sym, refl, subst, true≢false, lit<}
+use Rattle.std.proofs.Common.{◌≡◌, ℕ, ◌<◌, true, false, cond, not, T, [], ◌∷◌, negsuc, sym, refl, subst, true≢false, lit<}
 use lib.Ieee.{Float, nan, inf, fin, binary64, neg, add, sub, mul, div, le, lt, is_nan, fits, of_bits}
 use lib.Ieee.Fits.{mul-fits}
 use lib.Ieee.Scale.{finite}
@@ -11,7 +11,7 @@ use Rattle.numeric.proofs.Intervals.{mk, In, above_parts}
 use Rattle.numeric.proofs.Programs.{Code, at, lit, turned, plus, minus, times, over, span, fits_in, bounded, neg_in}
 use Rattle.numeric.proofs.Order.{zero_f, number_above, lt-le, zero_over}
 use Rattle.numeric.proofs.Tests.{by_cases}
-use Rattle.numeric.proofs.Words.{mag, mag_plain, mag_sign, mag_fits, mag_number, mag_zero, mag_between, above_plain, below_turned, not_below}
+use Rattle.numeric.proofs.Words.{mag, mag_plain, mag_sign, mag_number, mag_zero, mag_between, above_plain, below_turned, not_below}
 use Rattle.float.specs.Band.{below_bits}
 use Rattle.float.specs.Constants.{one, two, minus_one, minus_two, plus_zero}
 use Rattle.exponential.specs.Expm1.{expm1_of}

@@ -1,6 +1,6 @@
 -- asinh and atanh are odd. Assumes nothing.
 use Rattle.std.proofs.Common.{◌≡◌, ℕ, zero, suc, Bool, ℤ, refl}
-use lib.Ieee.{Float, nan, inf, fin, neg}
+use lib.Ieee.{nan, inf, fin, neg}
 use Rattle.numeric.proofs.Signs.{by_size_odd}
 use Rattle.float.specs.Odd.{Odd}
 use Rattle.inverse.specs.Asinh as Asinh

@@ -1,5 +1,5 @@
 -- atanh of an f64: special values, then the method, each step rounded once.
-use Rattle.std.specs.Prelude.{zero, suc, Bool, false, cond, Float}
+use Rattle.std.specs.Prelude.{zero, suc, false, cond, Float}
 use Rattle.std.specs.Float.Ieee.{neg, lt, eq}
 use Rattle.std.specs.Float.{is_sign_negative, float_with_sign, nan, inf, fin, binary64}
 use Rattle.float.specs.Band.{below_bits}

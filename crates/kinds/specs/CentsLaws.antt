@@ -1,6 +1,6 @@
 -- Whole cents keep the laws of a kind. Assumes nothing.
 use Rattle.std.specs.Prelude.{◌≡◌, ℕ, zero, suc, ◌*◌, ◌^◌, ◌<◌, ◌≤◌, Bool, true, false, cond, ◌&&◌, List, [], ◌∷◌, map, length, ℤ, pos, negsuc, ◌+ℤ◌, neg_ℤ, int_div, int_le, refl}
-use Rattle.std.proofs.Common.{sym, ap, ◌∙◌, subst, arith, div-le_self}
+use Rattle.std.proofs.Common.{sym, ap, ◌∙◌, arith, div-le_self}
 use Rattle.std.proofs.Math.Nat.{zero-div}
 use Rattle.std.proofs.Math.IntN.{neg_ℤ-neg_ℤ, neg_ℤ-+ℤ}
 use Rattle.std.proofs.lemmas.Bool.Decides.{nat_tests}

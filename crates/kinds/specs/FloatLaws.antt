@@ -1,5 +1,5 @@
 -- The floats of a format keep the laws of a kind. Assumes nothing.
-use Rattle.std.specs.Prelude.{◌≡◌, Bool, not, ◌&&◌, T, List, [], ◌∷◌, map, is_nan, Float}
+use Rattle.std.specs.Prelude.{Bool, not, ◌&&◌, T, List, [], ◌∷◌, map, is_nan, Float}
 use Rattle.std.proofs.Common.{ap, ◌∙◌}
 use Rattle.std.specs.Float.{Format, binary32, binary64}
 use Rattle.std.specs.Float.Ieee.{neg, le, fits, of_bits}

@@ -1,4 +1,6 @@
 //! Kinds of figure: f64, f32, and whole cents in an i64.
+#![tactic(auto)]
+
 pub mod cents;
 pub mod count;
 pub mod doubles;

@@ -21,7 +21,7 @@ use Rattle.ledger.proofs.Each.{each_at, each_map, map_replicate}
 use Rattle.ledger.proofs.Keeping.{Good, GoodAt, step_good, step_length, all_convertible}
 use Rattle.ledger.proofs.Summing.{totals_alike, means_alike, verdicts_alike}
 
-module _ {K : Type 0} (k : Meaning K) (c : Rule K) (laws : Lawful k) (sound : Sound k c) (odd : Mirrored k c) where
+module _ {K : Type 0} (k : Meaning K) (c : Rule K) (laws : Lawful k) (zero_finite : k.infinite k.nought ≡ false) (sound : Sound k c) (odd : Mirrored k c) where
   -- a step and its mirror
   record Reflects (s s' : Step (Ledger K) K) : Type 0 where
     after : s'.after ≡ mirror_ledger k s.after
@@ -163,9 +163,9 @@ module _ {K : Type 0} (k : Meaning K) (c : Rule K) (laws : Lawful k) (sound : So
     }
     own_both Close = subst (λ r. Reflects (becomes l true (close_rule l.rows)) (becomes m true r)) (sym (close_mirror 0 l.rows)) (become_both true (close_rule l.rows))
     own_both Reopen = become_both false (Ok tt)
-    own_both Total = record { after = refl; answer = totals_alike k laws l.rows few }
-    own_both Mean = record { after = refl; answer = means_alike k laws l.rows few }
-    own_both (Exceeds x) = record { after = refl; answer = verdicts_alike k laws l.rows few x }
+    own_both Total = record { after = refl; answer = totals_alike k laws zero_finite l.rows few }
+    own_both Mean = record { after = refl; answer = means_alike k laws zero_finite l.rows few }
+    own_both (Exceeds x) = record { after = refl; answer = verdicts_alike k laws zero_finite l.rows few x }
 
     has_both : (b : Bool) (call : Call K) → has b (mirror_call k call) ≡ has b call
     has_both b (Enter i x) = refl

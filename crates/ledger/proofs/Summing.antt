@@ -2,7 +2,7 @@
 use Rattle.std.proofs.Common.{◌≡◌, ℕ, zero, suc, ◌+◌, ◌≤◌, Bool, true, false, cond, not, ◌&&◌, eqb, List, [], ◌∷◌, map, length, Ok, Err, Result, sym, refl, ap, ◌∙◌, subst, arith}
 use Rattle.std.proofs.lemmas.Bool.Decides.{nat_tests}
 use Rattle.refusals.specs.Refusals.{Told}
-use Rattle.kinds.specs.Kinds.{Meaning, Lawful, Summed, sum}
+use Rattle.kinds.specs.Kinds.{Meaning, Lawful, Summable, sum}
 use Rattle.ledger.specs.declared.mark.Mark.{Mark}
 use Rattle.ledger.specs.declared.mark.Mark.TheVariants.{Free, Plain, Turned}
 use Rattle.ledger.specs.Marks.{is_turned}
@@ -12,9 +12,18 @@ use Rattle.ledger.specs.Ledgers.{Reply, amount, verdict, reply}
 use Rattle.ledger.specs.Mirrors.{mirror_row, Alike}
 
 module _ {K : Type 0} (k : Meaning K) where
+  -- What has been summed: each summand is a finite number, and no sum on the way was infinite, zero the first.
+  abbrev Summed : List K → Type 0
+  Summed [] = k.infinite k.nought ≡ false
+  Summed (x ∷ earlier) = Summed earlier × (k.number x ≡ true) × (k.infinite x ≡ false) × (k.infinite (sum k (x ∷ earlier)) ≡ false)
+
+  summable : (xs : List K) → Summed xs → Summable k xs × (k.infinite (sum k xs) ≡ false)
+  summable [] z = (tt, z)
+  summable (x ∷ earlier) (h, n, j, i) = let before = summable earlier h in ((before.0, before.1, n, j), i)
+
   -- two totals: refused alike, or the running sums of some numbers and of the same with their signs turned
   data Opposed : Result K Told → Result K Told → Type 0 where
-    summed : (xs : List K) → length xs ≤ 4096 → Summed k xs → Opposed (Ok (sum k xs)) (Ok (sum k (map k.turned xs)))
+    summed : (xs : List K) → length xs ≤ 4096 → Summed xs → Opposed (Ok (sum k xs)) (Ok (sum k (map k.turned xs)))
     alike : (t : Told) → Opposed (Err t) (Err t)
 
   pub count_few : (rows : List (Row K)) → turned_count rows ≤ length rows
@@ -49,8 +58,8 @@ module _ {K : Type 0} (k : Meaning K) where
         (subst (λ z. Opposed (next s) (turn true z o' s' next')) (sym ef)
         (subst (λ z. Opposed (next s) (turn true false z s' next')) (sym (eo refl refl)) (r refl refl refl)))
 
-  module _ (laws : Lawful k) where
-    sums : (rows : List (Row K)) (i : ℕ) (xs : List K) → length xs + length rows ≤ 4096 → Summed k xs
+  module _ (laws : Lawful k) (zero_finite : k.infinite k.nought ≡ false) where
+    sums : (rows : List (Row K)) (i : ℕ) (xs : List K) → length xs + length rows ≤ 4096 → Summed xs
         → Opposed (row_by_row (added k) i rows (sum k xs)) (row_by_row (added k) i (map (mirror_row k) rows) (sum k (map k.turned xs)))
     sums [] i xs few ok = summed xs (omega arith) ok
     sums (r ∷ rows) i xs few ok =
@@ -58,7 +67,7 @@ module _ {K : Type 0} (k : Meaning K) where
       where
         go : (m : Mark) (x : K)
             → Opposed (row_by_row (added k) (suc i) rows (sum k xs)) (row_by_row (added k) (suc i) (map (mirror_row k) rows) (sum k (map k.turned xs)))
-            → ((x : K) → Summed k (x ∷ xs) → Opposed (row_by_row (added k) (suc i) rows (sum k (x ∷ xs))) (row_by_row (added k) (suc i) (map (mirror_row k) rows) (sum k (map k.turned (x ∷ xs)))))
+            → ((x : K) → Summed (x ∷ xs) → Opposed (row_by_row (added k) (suc i) rows (sum k (x ∷ xs))) (row_by_row (added k) (suc i) (map (mirror_row k) rows) (sum k (map k.turned (x ∷ xs)))))
             → Opposed (row_by_row (added k) i (record { mark = m; figure = x } ∷ rows) (sum k xs)) (row_by_row (added k) i (mirror_row k (record { mark = m; figure = x }) ∷ map (mirror_row k) rows) (sum k (map k.turned xs)))
         go Free x same more = same
         go Plain x same more = same
@@ -66,7 +75,7 @@ module _ {K : Type 0} (k : Meaning K) where
             both i (λ t. row_by_row (added k) (suc i) rows t) (λ t. row_by_row (added k) (suc i) (map (mirror_row k) rows) t) (sum k (x ∷ xs)) (sum k (map k.turned (x ∷ xs)))
             (k.number x) (k.infinite x) (k.infinite (sum k (x ∷ xs))) (k.number (k.turned x)) (k.infinite (k.turned x)) (k.infinite (sum k (map k.turned (x ∷ xs))))
             (laws.turned_number x) (laws.turned_infinite x)
-            (λ p q. laws.sum_infinite x xs (omega arith) ok p q)
+            (λ p q. let before = summable xs ok in laws.sum_infinite (x ∷ xs) (omega arith) (before.0, before.1, p, q))
             (λ p q o. more x (ok, p, q, o))
 
     module _ (rows : List (Row K)) (few : length rows ≤ 4096) where
@@ -74,10 +83,10 @@ module _ {K : Type 0} (k : Meaning K) where
       mirror = map (mirror_row k) rows
 
       totals : Opposed (total_rule k rows) (total_rule k mirror)
-      totals = sums rows 0 [] (omega arith) tt
+      totals = sums rows 0 [] (omega arith) zero_finite
 
       total_alike : (a b : Result K Told) → Opposed a b → Alike k (reply amount a) (reply amount b)
-      total_alike _ _ (summed xs n ok) = (sum k (map k.turned xs), refl, laws.sum_turned xs n ok)
+      total_alike _ _ (summed xs n ok) = (let done = summable xs ok in (sum k (map k.turned xs), refl, laws.sum_turned xs n done.0 done.1))
       total_alike _ _ (alike t) = refl
 
       exceeds_alike : (limit : K) (v : Bool) (a b : Result K Told) → Opposed a b
@@ -90,7 +99,7 @@ module _ {K : Type 0} (k : Meaning K) where
           → Alike k (reply amount (and_then (refuse v nothing_turned (Ok n)) (λ n. and_then a (λ s. Ok (k.over s n))))) (reply amount (and_then (refuse v nothing_turned (Ok n)) (λ n. and_then b (λ s. Ok (k.over s n)))))
       mean_alike n h true e _ _ o = refl
       mean_alike n h false e _ _ (summed xs m ok) =
-          (k.over (sum k (map k.turned xs)) n, refl, laws.mean_turned xs m ok n (some n e) h)
+          (let done = summable xs ok in (k.over (sum k (map k.turned xs)) n, refl, laws.mean_turned xs m done.0 done.1 n (some n e) h))
         where
           some : (n : ℕ) → eqb n 0 ≡ false → 1 ≤ n
           some n p = grind (arith, nat_tests)

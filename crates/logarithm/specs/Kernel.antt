@@ -1,8 +1,8 @@
 -- The logarithm of 2^k (1 + f), for 1 + f between √½ and √2; and how a value is cut into such a k and f. Each step is rounded once.
-use Rattle.std.specs.Prelude.{ℕ, ◌+◌, ◌-◌, ◌*◌, ◌/◌, ◌%◌, List, [], ◌∷◌, ℤ, pos, ◌-ℤ◌, from_bits, Float}
+use Rattle.std.specs.Prelude.{ℕ, ◌+◌, ◌/◌, ◌%◌, List, [], ◌∷◌, ℤ, pos, ◌-ℤ◌, from_bits, Float}
 use Rattle.std.specs.Float.{Format, binary64}
-use Rattle.std.specs.Float.Ieee.{emax, hid, top, to_bits, add, sub, mul, div, of_int}
-use Rattle.float.specs.Constants.{one, two, half}
+use Rattle.std.specs.Float.Ieee.{emax, hid, top, add, sub, mul, div, of_int}
+use Rattle.float.specs.Constants.{two, half}
 use Rattle.float.specs.Polynomial.{horner}
 
 -- the constants of a format, by their bit patterns

@@ -1,5 +1,5 @@
 -- log of an f64: special values, then the method, each step rounded once.
-use Rattle.std.specs.Prelude.{ℕ, zero, suc, Bool, true, false, cond, ℤ, pos, negsuc, ◌+ℤ◌, from_bits, to_bits, Float}
+use Rattle.std.specs.Prelude.{ℕ, zero, suc, true, false, cond, ℤ, pos, negsuc, ◌+ℤ◌, from_bits, to_bits, Float}
 use Rattle.std.specs.Float.Ieee.{sub, mul, eq}
 use Rattle.std.specs.Float.{is_sign_negative, nan, inf, fin, binary64}
 use Rattle.float.specs.Band.{below_bits}

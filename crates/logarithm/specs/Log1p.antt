@@ -1,7 +1,7 @@
 -- log(1 + x): special values, then the method, each step rounded once.
 use Rattle.std.specs.Prelude.{ℕ, zero, suc, Bool, true, false, cond, ℤ, pos, int_le, int_lt, to_bits, Float}
-use Rattle.std.specs.Float.Ieee.{of_bits, add, sub, div, lt, eq}
-use Rattle.std.specs.Float.{is_sign_negative, Format, nan, inf, fin, binary64}
+use Rattle.std.specs.Float.Ieee.{add, sub, div, lt, eq}
+use Rattle.std.specs.Float.{is_sign_negative, Format, nan, inf, fin}
 use Rattle.float.specs.Band.{below_bits}
 use Rattle.float.specs.Constants.{one, minus_one, plus_zero, infinity, minus_infinity, not_a_number}
 use Rattle.logarithm.specs.Kernel.{Logarithm, exponent_of, significand_of, slope_of, join_of, high_part, low_part}

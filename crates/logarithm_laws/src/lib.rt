@@ -1,1 +1,2 @@
 //! Where the logarithms lie: of every number of their ranges they are numbers. Proofs only.
+#![tactic(auto)]

@@ -1,7 +1,7 @@
 -- Sums and products that are no NaN where a part may be infinite, and their order. Assumes nothing.
 use Rattle.std.proofs.Common.{◌≡◌, ℕ, suc, ◌*◌, Bool, true, false, cond, not, T, ℤ, sym, refl, ap, ◌∙◌, subst}
 use lib.Dec.{eqb-suc-zero}
-use lib.Ieee.{Float, nan, inf, fin, Format, up, down, unlike, round, neg, add, sub, mul, le, is_nan}
+use lib.Ieee.{Float, nan, inf, fin, Format, up, down, unlike, round, add, mul, le, is_nan}
 use lib.Ieee.Scale.{finite}
 use Rattle.numeric.proofs.Rounding.{Signed, round_signed}
 use Rattle.numeric.proofs.Operations.{add_mono, mul_mono_l}

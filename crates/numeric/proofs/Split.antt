@@ -1,5 +1,5 @@
 -- What is left of a difference r = h - l: the correction c = (h - r) - l, where r is below one half in size and l small. Assumes nothing.
-use Rattle.std.proofs.Common.{◌≡◌, ℕ, ◌+◌, ◌*◌, ◌^◌, Bool, false, not, ◌&&◌, T, [], ◌∷◌, negsuc, sym, refl, subst, T_not}
+use Rattle.std.proofs.Common.{◌≡◌, ℕ, ◌+◌, ◌*◌, ◌^◌, Bool, false, not, ◌&&◌, T, [], ◌∷◌, negsuc, sym, subst, T_not}
 use lib.Dec.{not_T}
 use lib.Ieee.{Float, Format, fin, prec, low, neg, add, sub, le}
 use lib.Ieee.Scale.{finite}

@@ -1,6 +1,6 @@
 -- The reduction by multiples of ln 2, over the constants of a format: a reducible x whose count is k lies near k ln 2,
 -- and what is left of it is small, by one computed test for each k. Assumes nothing.
-use Rattle.std.proofs.Common.{◌≡◌, ℕ, zero, suc, ◌+◌, ◌-◌, ◌*◌, ◌/◌, ◌^◌, ◌<◌, ◌≤◌, Bool, true, false, cond, not, ◌&&◌, T, List, [], ◌∷◌, ℤ, pos, negsuc, neg_ℤ, sym, refl, ap, ◌∙◌, subst, le_trans, lt_of_lt_of_le, le_of_suc-le-suc, not-suc-le-zero, le_of_lt, mul-le-mul_right, zero-lt-suc, lt_of_not-le, zero-add, arith, T_not}
+use Rattle.std.proofs.Common.{◌≡◌, ℕ, zero, suc, ◌+◌, ◌-◌, ◌*◌, ◌/◌, ◌^◌, ◌<◌, ◌≤◌, Bool, true, false, cond, not, ◌&&◌, T, [], ◌∷◌, ℤ, pos, negsuc, sym, refl, ap, ◌∙◌, subst, le_trans, le_of_suc-le-suc, not-suc-le-zero, le_of_lt, mul-le-mul_right, zero-lt-suc, lt_of_not-le, zero-add, arith, T_not}
 use lib.Dec.{not_T}
 use lib.Ieee.{Float, Format, fin, prec, round, neg, add, sub, mul, le, lt, is_nan, of_bits, of_int, to_signed}
 use lib.Ieee.Order.{round_mono}
@@ -9,7 +9,7 @@ use lib.Ieee.Positive.{den}
 use Rattle.std.specs.Float.{is_sign_negative}
 use Rattle.numeric.proofs.Rounding.{P, N, and_l, and_r, le_trans_f, neg-le, neg-neg, finite-neg}
 use Rattle.numeric.proofs.Operations.{add_mono, mul_mono_r}
-use Rattle.numeric.proofs.Intervals.{Itv, mk, In, finite_between, above_parts}
+use Rattle.numeric.proofs.Intervals.{mk, In, finite_between, above_parts}
 use Rattle.numeric.proofs.Programs.{Code, at, lit, minus, times, span, fits_in, bounded, bounded_all, le_refl_f}
 use Rattle.numeric.proofs.Order.{lt-le, under_by, whole_under}
 use Rattle.numeric.proofs.Split.{Sizes, Sound, Parts, parts_in, small_parts, around}

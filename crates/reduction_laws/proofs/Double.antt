@@ -1,6 +1,6 @@
 -- The reduction of an f64, for counts up to 1075 in size. Assumes nothing.
 use Rattle.std.proofs.Common.{◌^◌, false, T, negsuc, refl, inl, inr, lit<, lit≤}
-use lib.Ieee.{Format, binary64, fin, round, neg, add, sub, mul, le, of_bits, of_int}
+use lib.Ieee.{binary64, fin, round, neg, add, sub, mul, le, of_bits, of_int}
 use Rattle.numeric.proofs.Split.{Sizes, Sound}
 use Rattle.numeric.proofs.Tests.{every}
 use Rattle.exponential.specs.Ln2.{double}

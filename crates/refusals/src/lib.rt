@@ -1,4 +1,6 @@
 //! What is told of a refusal, whichever enum it is a case of.
+#![tactic(auto)]
+
 ghost use Rattle.std.specs.Prelude.{◌≡◌};
 ghost use Rattle.refusals.specs.Refusals.{Told};
 

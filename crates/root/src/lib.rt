@@ -1,2 +1,4 @@
 // The square root.
+#![tactic(auto)]
+
 pub mod sqrt;

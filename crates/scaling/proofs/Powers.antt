@@ -1,5 +1,5 @@
 -- The pattern of a power of two, and a product with one. Assumes nothing.
-use Rattle.std.proofs.Common.{◌≡◌, ℕ, suc, ◌+◌, ◌-◌, ◌*◌, ◌/◌, ◌%◌, ◌^◌, ◌<◌, ◌≤◌, Bool, true, false, cond, leb, ℤ, pos, negsuc, ◌+ℤ◌, nat_abs, ◌≤ℤ◌, refl, ap, ◌∙◌, mod-eq_of_lt, mul-lt-mul_of_pos_right, mul-div_cancel, arith, lit≤, pow_pos, ne_eqb, le-leb}
+use Rattle.std.proofs.Common.{◌≡◌, ℕ, suc, ◌+◌, ◌-◌, ◌*◌, ◌/◌, ◌%◌, ◌<◌, ◌≤◌, Bool, true, false, cond, leb, ℤ, pos, negsuc, ◌+ℤ◌, nat_abs, ◌≤ℤ◌, refl, ap, ◌∙◌, mod-eq_of_lt, mul-lt-mul_of_pos_right, mul-div_cancel, arith, lit≤, pow_pos, ne_eqb, le-leb}
 use native.Mathlib.Nat.{mul-mod_left}
 use borrow.Author.Tests.{lt-leb}
 use lib.Ieee.{Float, Format, nan, inf, fin, binary32, binary64, prec, emax, low, hid, ones, top, minus, unlike, up, down, odd, round, mul, of_fields, of_bits}

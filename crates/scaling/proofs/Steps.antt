@@ -1,12 +1,12 @@
 -- Scaling in steps: a step up is exact or overflows for good; a step down is exact, or what is left of it vanishes for good. Assumes nothing.
-use Rattle.std.proofs.Common.{◌≡◌, ℕ, zero, suc, ◌+◌, ◌-◌, ◌*◌, ◌/◌, ◌%◌, ◌^◌, ◌<◌, ◌≤◌, Bool, true, false, not, ◌&&◌, T, eqb, ltb, leb, ◌⊎◌, ℤ, pos, negsuc, sym, refl, ap, ◌∙◌, subst, inl, inr, suc-le-suc, le_trans, le_of_eq, lt_of_lt_of_le, lt_of_le_of_lt, mul-le-mul_right, zero-lt-suc, mul_assoc, mul_comm, div-lt_iff_lt-mul, add_comm, lt_of_mul-lt-mul_right, mul-le-mul_left, mul-lt-mul_of_pos_right, mul-pos, zero-mul, mul-one, mul_right_comm, not-le_of_lt, arith, ltb→lt, leb→le, pow_pos, pow_mono, pow-add, shl_lt}
+use Rattle.std.proofs.Common.{◌≡◌, ℕ, zero, suc, ◌+◌, ◌-◌, ◌*◌, ◌/◌, ◌^◌, ◌<◌, ◌≤◌, Bool, true, false, not, T, leb, ◌⊎◌, ℤ, pos, negsuc, sym, refl, ap, ◌∙◌, subst, inl, inr, suc-le-suc, le_trans, le_of_eq, lt_of_lt_of_le, lt_of_le_of_lt, mul-le-mul_right, zero-lt-suc, mul_assoc, mul_comm, div-lt_iff_lt-mul, add_comm, lt_of_mul-lt-mul_right, mul-le-mul_left, mul-lt-mul_of_pos_right, mul-pos, zero-mul, mul-one, mul_right_comm, arith, leb→le, pow_pos, pow_mono, pow-add, shl_lt}
 use native.Mathlib.Nat.{mul-mul-mul_comm}
 use lib.Dec.{nleb→lt}
 use lib.Pow.{pow-lt}
-use lib.Ieee.{Float, Format, nan, inf, fin, prec, emax, low, up, down, units, size, round, fits}
+use lib.Ieee.{Float, Format, nan, inf, fin, prec, emax, low, up, down, size, round, fits}
 use lib.Ieee.Digits.{size-le, back}
 use lib.Ieee.Exact.{HasValue, round_exact, units_val}
-use lib.Ieee.Fits.{round_is, down_pos, and_l, and_r, two, two-le_pos, reach}
+use lib.Ieee.Fits.{round_is, down_pos, two, two-le_pos, reach}
 use lib.Ieee.Order.{kept, drop}
 use lib.Ieee.Scale.{round_same, grid, overflow, normal_of_rounded}
 use Rattle.numeric.proofs.Units.{fitting, power_in_units}

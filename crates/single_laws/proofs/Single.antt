@@ -4,7 +4,7 @@ use mathlib.Core.Logic.{inl, inr}
 use mathlib.Core.Bool.{false}
 use Prim.Native.Nat.{◌^◌}
 use lib.IntN.{negsuc}
-use lib.Dec.{T, lit<, lit≤}
+use lib.Dec.{lit<, lit≤}
 use lib.Ieee.{binary32, fin, round, neg, add, sub, mul, div, le, is_nan, of_bits, of_int}
 use Rattle.numeric.proofs.Split.{Sizes, Sound}
 use Rattle.single.specs.Expm1f.{ln2, single, expm1f_of}

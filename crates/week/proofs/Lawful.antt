@@ -83,7 +83,7 @@ module _ {K : Type 0} (k : Meaning K) (c : Rule K) (lawful : Lawful k) (sound : 
       go Turned x g h = absurd (apart (sym h))
 
   -- the same list, mirrored
-  module _ (odd : Mirrored k c) (calls : List (Listed K)) where
+  module _ (zero_finite : k.infinite k.nought ≡ false) (odd : Mirrored k c) (calls : List (Listed K)) where
     abbrev mirror : List (Listed K)
     mirror = map (mirror_listed k) calls
 
@@ -92,7 +92,7 @@ module _ {K : Type 0} (k : Meaning K) (c : Rule K) (lawful : Lawful k) (sound : 
 
     ledger_mirror : ledger_after k c n mirror ≡ mirror_ledger k (ledger_after k c n calls)
     ledger_mirror =
-        ap (λ l. run (ledger_step k c) l mirror) (sym (new_mirror k c lawful sound odd n)) ∙ run_mirror k c lawful sound odd calls (new_ledger k n) (new_good k c n) few_new
+        ap (λ l. run (ledger_step k c) l mirror) (sym (new_mirror k c lawful zero_finite sound odd n)) ∙ run_mirror k c lawful zero_finite sound odd calls (new_ledger k n) (new_good k c n) few_new
 
     sheet_mirror : sheet_after k c n mirror ≡ shown (mirror_ledger k (ledger_after k c n calls))
     sheet_mirror = after mirror ∙ ap shown ledger_mirror
@@ -107,8 +107,8 @@ module _ {K : Type 0} (k : Meaning K) (c : Rule K) (lawful : Lawful k) (sound : 
 
     replies_alike : Each2 (Alike k) (ledger_replies k c n calls) (ledger_replies k c n mirror)
     replies_alike =
-        subst (λ l. Each2 (Alike k) (ledger_replies k c n calls) (replies (ledger_step k c) l mirror)) (new_mirror k c lawful sound odd n)
-        (replies_mirror k c lawful sound odd calls (new_ledger k n) (new_good k c n) few_new)
+        subst (λ l. Each2 (Alike k) (ledger_replies k c n calls) (replies (ledger_step k c) l mirror)) (new_mirror k c lawful zero_finite sound odd n)
+        (replies_mirror k c lawful zero_finite sound odd calls (new_ledger k n) (new_good k c n) few_new)
 
     week_mirrored : MirroredWeek k c n calls
     week_mirrored = record {
@@ -129,5 +129,5 @@ module _ {K : Type 0} (k : Meaning K) (c : Rule K) (lawful : Lawful k) (sound : 
     zeros = each_also (Good k c) (λ r. held r.mark ≡ false → r.figure ≡ k.nought) zero_of (rows_after k c n calls) (good calls);
     fair = subst (λ z. Each2 (λ q a. refused_for_figure q.call a ≡ false) calls z) (sym (answered calls)) (run_fair k c sound (new_ledger k n) calls (new_good k c n));
     sums = λ s e. total_sums k (rows_after k c n calls) 0 [] s e;
-    mirrored = λ odd. week_mirrored odd calls;
+    mirrored = λ zero_finite odd. week_mirrored zero_finite odd calls;
   }

@@ -63,8 +63,8 @@ module _ {K : Type 0} (k : Meaning K) (c : Rule K) (n : ℕ) where
     pub fair : Each2 (λ q a. refused_for_figure q.call a ≡ false) calls (sheet_replies calls)
     -- a total, where there is one, is the running sum of the turned figures in row order
     pub sums : (s : K) → total_rule k (rows_after calls) ≡ Ok s → s ≡ sum k (turned_figures [] (rows_after calls))
-    -- under an odd conversion
-    pub mirrored : Mirrored k c → MirroredWeek calls
+    -- under an odd conversion, of a kind whose zero is not infinite
+    pub mirrored : k.infinite k.nought ≡ false → Mirrored k c → MirroredWeek calls
 
 -- What carrying out a list gives: the sheet of the definitions, their answers, and the law.
 pub record Carried {K : Type 0} (k : Meaning K) (c : Rule K) (n : ℕ) (calls : List (Listed K)) (sheet : Sheet K) (answers : List (Reply K)) : Type 0 where

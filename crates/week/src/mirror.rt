@@ -1,4 +1,4 @@
-ghost use Rattle.std.specs.Prelude.{◌≡◌, ℕ, ◌≤◌, map, IfOk};
+ghost use Rattle.std.specs.Prelude.{◌≡◌, ℕ, ◌≤◌, false, map, IfOk};
 ghost use Rattle.ledger.specs.Mirrors.{mirror_call, mirror_listed};
 ghost use Rattle.week.specs.Law.{MirroredWeek};
 
@@ -18,14 +18,15 @@ fn mirrored_call<K: Kind>(call: &Call<K>) -> Call<K>
 }
 
 // The list that mirrors another: the same calls, with every figure that is entered sign-turned. Under
-// an odd conversion the week of the one mirrors the week of the other, whatever the number of rows.
+// an odd conversion of a kind whose zero is not infinite, the week of the one mirrors the week of the other,
+// whatever the number of rows.
 pub fn mirrored<C: Odd>(
     heap: Global,
     c: &C,
     calls: &[Listed<C::Figure>],
 ) -> Result<Vec<Listed<C::Figure>>, AllocError>
     ensures list { IfOk result (λ v. v.items ≡ map (mirror_listed C.Figure.Kind.means) calls.now) }
-    ensures week { (n : ℕ) → n ≤ 4096 → MirroredWeek C.Figure.Kind.means (C.Conversion.rule c.now) n calls.now }
+    ensures week { C.Figure.Kind.means.infinite C.Figure.Kind.means.nought ≡ false → (n : ℕ) → n ≤ 4096 → MirroredWeek C.Figure.Kind.means (C.Conversion.rule c.now) n calls.now }
 {
     let mut mirror = Vec::new(heap);
     for listed in calls {

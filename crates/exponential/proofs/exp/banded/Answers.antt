@@ -1,5 +1,5 @@
 use Rattle.std.proofs.Common.{not, T}
-use lib.Ieee.{Float, binary64, neg, le, lt, is_nan, of_bits}
+use lib.Ieee.{Float, neg, le, lt, is_nan, of_bits}
 use Rattle.numeric.proofs.Rounding.{le_trans_f}
 use Rattle.numeric.proofs.Order.{not_lt-le}
 use Rattle.numeric.proofs.Tests.{off}

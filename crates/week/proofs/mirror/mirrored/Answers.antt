@@ -11,7 +11,7 @@ returns-in-err-push g c =
     let self = c.args.c.now in
     record {
       list = IfOk-from_err c.from-residual.result _ c.from-residual.ensures.0;
-      week = λ n few. (law_stands k (g.C.Conversion.rule self) g.met.Figure.Kind.lawful (g.met.C.Conversion.sound self) n few c.args.calls.now).mirrored (g.met.C.Odd.mirrored self);
+      week = λ zero_finite n few. (law_stands k (g.C.Conversion.rule self) g.met.Figure.Kind.lawful (g.met.C.Conversion.sound self) n few c.args.calls.now).mirrored zero_finite (g.met.C.Odd.mirrored self);
     }
 
 pub loop-listed-preserved : goal.loop-listed-preserved
@@ -36,5 +36,5 @@ returns g c =
     let calls = c.args.calls.now in
     record {
       list = c.loop-listed.invariant.1 ∙ ap (map (mirror_listed k)) (take_all c.loop-listed.listed-index calls c.loop-listed-test.false);
-      week = λ n few. (law_stands k (g.C.Conversion.rule self) g.met.Figure.Kind.lawful (g.met.C.Conversion.sound self) n few calls).mirrored (g.met.C.Odd.mirrored self);
+      week = λ zero_finite n few. (law_stands k (g.C.Conversion.rule self) g.met.Figure.Kind.lawful (g.met.C.Conversion.sound self) n few calls).mirrored zero_finite (g.met.C.Odd.mirrored self);
     }
