@@ -7,7 +7,7 @@ use Rattle.numeric.proofs.Rounding.{and_l, and_r, and_i}
 use Rattle.numeric.proofs.Order.{le_inf, le_self, number_above}
 use Rattle.numeric.proofs.Tests.{is_on, on}
 use Rattle.kinds.specs.Floats.{floats}
-use Rattle.conversion.specs.Conversions.{Rule, in_range, Sound, AllNumbers, Mirrored}
+use Rattle.conversion.specs.Conversions.{in_range, Sound, AllNumbers, Mirrored}
 use Rattle.conversion.specs.FloatRules.{minus_infinity, infinity, everywhere, upward, between}
 
 -- a number of the format

@@ -1,4 +1,6 @@
 //! Conversions of figures: an on and a back between the numbers of a kind and a range of them.
+#![tactic(auto)]
+
 pub mod chain;
 pub mod conversion;
 pub mod flip;

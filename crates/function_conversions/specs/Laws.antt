@@ -1,6 +1,6 @@
 -- What each pair of functions owes. Assumes nothing.
 use Rattle.std.specs.Prelude.{◌≡◌, T, refl, Float}
-use Rattle.std.specs.Float.{Format, binary32, binary64}
+use Rattle.std.specs.Float.{binary32, binary64}
 use Rattle.std.specs.Float.Ieee.{fits, neg, le, of_bits, is_nan}
 use Rattle.std.specs.Float.Ieee.Bits.{of_bits-fits}
 use Rattle.float.specs.Constants.{one, minus_one, plus_zero}

@@ -1,4 +1,6 @@
 //! The conversions by a function and its inverse.
+#![tactic(auto)]
+
 pub mod cosh;
 pub mod exp;
 pub mod expm1;

@@ -1,1 +1,2 @@
 //! Where the inverse hyperbolic functions lie: of every number of their ranges they are numbers. Proofs only.
+#![tactic(auto)]

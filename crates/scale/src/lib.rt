@@ -1,4 +1,6 @@
 //! The conversion of f64 by a power of two.
+#![tactic(auto)]
+
 ghost use Rattle.std.specs.Prelude.{◌≡◌, true};
 ghost use Rattle.std.specs.Float.{binary64};
 ghost use Rattle.std.specs.Result.{result_map_both};

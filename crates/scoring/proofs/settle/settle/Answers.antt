@@ -6,7 +6,7 @@ use Rattle.scoring.proofs.settle.settle.Goals as goal
 
 pub returns-in-Ok-carry-out : goal.returns-in-Ok-carry-out
 returns-in-Ok-carry-out g c =
-    let k = g.Figure.Kind.means in
+    let k = g.C.Figure.Kind.means in
     let rule = g.C.Conversion.rule c.args.c.now in
     let week = c.in-Ok-carry-out.week in
     let n = length c.args.marks.now in

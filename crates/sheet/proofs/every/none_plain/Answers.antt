@@ -5,16 +5,16 @@ use Rattle.sheet.specs.Sheets.{rows_of}
 use Rattle.sheet.proofs.Walking.{walk_on, walk_off, walk_end, some_at}
 use Rattle.sheet.proofs.every.none_plain.Goals as goal
 
-pub returns-in-err-not-plain : goal.returns-in-err-not-plain
-returns-in-err-not-plain g c =
+pub returns-in_err-not_plain : goal.returns-in_err-not_plain
+returns-in_err-not_plain g c =
     let ms = c.args.marks.now in
     let xs = c.args.figures.now in
     let i = c.loop-i.i in
     let j : i < length xs = omega arith in
     let x = some_at xs i j in
-    let p = err_from_is_err_and c.from-residual.result c.from-residual.ensures.1 in
-    walk_off (λ i r _. not_plain i r.mark) ms xs (close_rule (rows_of ms xs)) i x.0 tt c.loop-i.invariant.1 c.loop-i-test.true j x.1 c.not-plain.result c.not-plain.ensures
-    c.from-residual.result p.0 c.in-err-not-plain.field-0.0 p.1 p.2 c.in-err-not-plain.was
+    let p = err_from_is_err_and c.from_residual.result c.from_residual.ensures.1 in
+    walk_off (λ i r _. not_plain i r.mark) ms xs (close_rule (rows_of ms xs)) i x.0 tt c.loop-i.invariant.1 c.loop-i-test.true j x.1 c.not_plain.result c.not_plain.ensures
+    c.from_residual.result p.0 c.in_err-not_plain.field-0.0 p.1 p.2 c.in_err-not_plain.was
 
 pub loop-i-preserved : goal.loop-i-preserved
 loop-i-preserved g c =
@@ -23,7 +23,7 @@ loop-i-preserved g c =
     let i = c.loop-i.i in
     let j : i < length xs = omega arith in
     let x = some_at xs i j in
-    (omega arith, walk_on (λ i r _. not_plain i r.mark) ms xs (close_rule (rows_of ms xs)) i x.0 tt c.loop-i.invariant.1 c.loop-i-test.true j x.1 c.not-plain.result c.not-plain.ensures tt c.in-ok-not-plain.was)
+    (omega arith, walk_on (λ i r _. not_plain i r.mark) ms xs (close_rule (rows_of ms xs)) i x.0 tt c.loop-i.invariant.1 c.loop-i-test.true j x.1 c.not_plain.result c.not_plain.ensures tt c.in_ok-not_plain.was)
 
 pub returns : goal.returns
 returns g c =

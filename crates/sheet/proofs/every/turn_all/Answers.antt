@@ -7,9 +7,9 @@ use Rattle.sheet.proofs.Filling.{filled_more, filled_end, unwritten}
 use Rattle.sheet.proofs.Turning.{number_at, figures_length, figure_at}
 use Rattle.sheet.proofs.every.turn_all.Goals as goal
 
-pub turned-row-byte-requires : goal.turned-row-byte-requires
-turned-row-byte-requires g c κs p =
-    let k = g.Figure.Kind.means in
+pub turned_row-byte-requires : goal.turned_row-byte-requires
+turned_row-byte-requires g c p =
+    let k = g.C.Figure.Kind.means in
     let rule = g.C.Conversion.rule c.args.c.now in
     let ms = c.args.marks.now in
     let xs = c.args.figures.now in
@@ -26,8 +26,8 @@ loop-i-preserved g c =
     let xs = c.args.figures.now in
     let i = c.loop-i.i in
     let x = c.index-figures-i.result in
-    let byte = c.turned-row-byte.result.0 in
-    let y = c.turned-row-byte.result.1 in
+    let byte = c.turned_row-byte.result.0 in
+    let y = c.turned_row-byte.result.1 in
     let h : i < length ms = c.loop-i-test.true in
     let lengths = c.requires.lengths in
     let j : i < length xs = omega arith in
@@ -36,9 +36,9 @@ loop-i-preserved g c =
     let figure = c.index-figures-i.is ∙ ap (λ l. get_or l i x) c.loop-i.invariant.1 ∙ unwritten (figures_on rule ms xs) xs i x (figures_length rule ms xs) in
     let all = figures_length rule ms xs in (
       filled_more c.loop-i.marks (map mark_on ms) ms i byte c.loop-i.invariant.0 (omega arith) long
-          (c.turned-row-byte.ensures.mark ∙ ap mark_on mark ∙ sym (get_or-map mark_on ms i 0 byte h)),
+          (c.turned_row-byte.ensures.mark ∙ ap mark_on mark ∙ sym (get_or-map mark_on ms i 0 byte h)),
       filled_more c.loop-i.figures (figures_on rule ms xs) xs i y c.loop-i.invariant.1 (omega arith) all
-          (c.turned-row-byte.ensures.figure ∙ ap (λ m. cond (is_plain (mark_of m)) (rule.on x) x) mark ∙ sym (figure_at rule ms xs i x y h j figure)),
+          (c.turned_row-byte.ensures.figure ∙ ap (λ m. cond (is_plain (mark_of m)) (rule.on x) x) mark ∙ sym (figure_at rule ms xs i x y h j figure)),
     )
 
 pub returns : goal.returns

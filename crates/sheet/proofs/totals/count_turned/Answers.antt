@@ -7,9 +7,9 @@ pub loop-byte-preserved : goal.loop-byte-preserved
 loop-byte-preserved c =
     let ms = c.args.marks.now in
     let i = c.loop-byte.byte-index in
-    let one = c.one-if-turned-count.ensures in
+    let one = c.one_if_turned-count.ensures in
     let small = one_at_most (is_turned (mark_of (get_or ms i 0))) in
-    (omega arith, omega arith, count_more ms i c.loop-byte.count c.one-if-turned-count.result c.loop-byte-test.true one c.loop-byte.invariant.2)
+    (omega arith, omega arith, count_more ms i c.loop-byte.count c.one_if_turned-count.result c.loop-byte-test.true one c.loop-byte.invariant.2)
 
 pub returns : goal.returns
 returns c =

@@ -10,4 +10,4 @@ returns-in-None c =
     let ms = c.args.marks.now in
     let few = count_few ms in
     let h : turned_bytes ms ≤ 4096 = omega arith in
-    none_counted (turned_bytes ms) h (subst (λ n. None ≡ counted n) c.count-turned.ensures c.in-None.ensures)
+    none_counted (turned_bytes ms) h (subst (λ n. None ≡ counted n) c.count_turned.ensures c.in-None.ensures)

@@ -7,16 +7,16 @@ use Rattle.week.proofs.mirror.mirrored.Goals as goal
 
 pub returns-in-err-push : goal.returns-in-err-push
 returns-in-err-push g c =
-    let k = g.Figure.Kind.means in
+    let k = g.C.Figure.Kind.means in
     let self = c.args.c.now in
     record {
       list = IfOk-from_err c.from-residual.result _ c.from-residual.ensures.0;
-      week = λ zero_finite n few. (law_stands k (g.C.Conversion.rule self) g.met.Figure.Kind.lawful (g.met.C.Conversion.sound self) n few c.args.calls.now).mirrored zero_finite (g.met.C.Odd.mirrored self);
+      week = λ zero_finite n few. (law_stands k (g.C.Conversion.rule self) g.met.C.Figure.Kind.lawful (g.met.C.Conversion.sound self) n few c.args.calls.now).mirrored zero_finite (g.met.C.Odd.mirrored self);
     }
 
 pub loop-listed-preserved : goal.loop-listed-preserved
 loop-listed-preserved g c =
-    let f = mirror_listed g.Figure.Kind.means in
+    let f = mirror_listed g.C.Figure.Kind.means in
     let calls = c.args.calls.now in
     let i = c.loop-listed.listed-index in
     let q = c.listed-item.result in
@@ -31,10 +31,10 @@ loop-listed-preserved g c =
 
 pub returns : goal.returns
 returns g c =
-    let k = g.Figure.Kind.means in
+    let k = g.C.Figure.Kind.means in
     let self = c.args.c.now in
     let calls = c.args.calls.now in
     record {
       list = c.loop-listed.invariant.1 ∙ ap (map (mirror_listed k)) (take_all c.loop-listed.listed-index calls c.loop-listed-test.false);
-      week = λ zero_finite n few. (law_stands k (g.C.Conversion.rule self) g.met.Figure.Kind.lawful (g.met.C.Conversion.sound self) n few calls).mirrored zero_finite (g.met.C.Odd.mirrored self);
+      week = λ zero_finite n few. (law_stands k (g.C.Conversion.rule self) g.met.C.Figure.Kind.lawful (g.met.C.Conversion.sound self) n few calls).mirrored zero_finite (g.met.C.Odd.mirrored self);
     }

@@ -8,11 +8,11 @@ use Rattle.week.proofs.Lawful.{law_stands}
 use Rattle.week.proofs.run.carry_out.Goals as goal
 
 pub returns-in-Err : goal.returns-in-Err
-returns-in-Err g c = open_refused g.Figure.Kind.means c.args.marks.now c.args.figures.now c.open.new.marks c.open.new.figures c.in-Err.refusal c.in-Err.ensures
+returns-in-Err g c = open_refused g.C.Figure.Kind.means c.args.marks.now c.args.figures.now c.open.new.marks c.open.new.figures c.in-Err.refusal c.in-Err.ensures
 
 pub run-list-sheet-requires : goal.run-list-sheet-requires
 run-list-sheet-requires g c =
-    let k = g.Figure.Kind.means in
+    let k = g.C.Figure.Kind.means in
     let ms = c.args.marks.now in
     let m = c.longest-longest-marks.result.0 in
     let f = c.longest-longest-marks.result.1 in
@@ -35,7 +35,7 @@ run-list-sheet-requires g c =
 
 pub returns : goal.returns
 returns g c =
-    let k = g.Figure.Kind.means in
+    let k = g.C.Figure.Kind.means in
     let rule = g.C.Conversion.rule c.args.c.now in
     let ms = c.args.marks.now in
     let n = length ms in
@@ -48,6 +48,6 @@ returns g c =
       record {
         after = ran.after ∙ ap (λ m. run (sheet_step k rule m) (sheet_of _ c.open.new.marks c.open.new.figures) calls) opened.rows ∙ ap (λ z. run (sheet_step k rule n) z calls) opened.new;
         answered = ran.answers ∙ ap (λ m. replies (sheet_step k rule m) (sheet_of _ c.open.new.marks c.open.new.figures) calls) opened.rows ∙ ap (λ z. replies (sheet_step k rule n) z calls) opened.new;
-        law = law_stands k rule g.met.Figure.Kind.lawful (g.met.C.Conversion.sound c.args.c.now) n few calls;
+        law = law_stands k rule g.met.C.Figure.Kind.lawful (g.met.C.Conversion.sound c.args.c.now) n few calls;
       },
     )

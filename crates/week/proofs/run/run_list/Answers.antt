@@ -11,7 +11,7 @@ step-listed-next-requires g c =
     let om = c.args.other-marks.now in
     let ox = c.args.other-figures.now in
     let q = c.listed-item.result in
-    let nought = g.Figure.Kind.means.nought in
+    let nought = g.C.Figure.Kind.means.nought in
     let fits = fits_at (length om) (length ox) c.args.calls.now c.loop-listed.listed-index q c.requires.fits c.loop-listed-test.true c.listed-item.is in
     record {
       rows = c.loop-listed.auto.marks ∙ c.requires.rows ∙ sym inv.3;
@@ -22,7 +22,7 @@ step-listed-next-requires g c =
 
 pub loop-listed-preserved : goal.loop-listed-preserved
 loop-listed-preserved g c =
-    let k = g.Figure.Kind.means in
+    let k = g.C.Figure.Kind.means in
     let rule = g.C.Conversion.rule c.args.c.now in
     let n = size c.args.sheet in
     let step = sheet_step k rule n in
@@ -63,7 +63,7 @@ loop-listed-preserved g c =
 
 pub returns : goal.returns
 returns g c =
-    let step = sheet_step g.Figure.Kind.means (g.C.Conversion.rule c.args.c.now) (size c.args.sheet) in
+    let step = sheet_step g.C.Figure.Kind.means (g.C.Conversion.rule c.args.c.now) (size c.args.sheet) in
     let first = seen c.args.sheet c.args.marks.now c.args.figures.now in
     let calls = c.args.calls.now in
     let all = take_all c.loop-listed.listed-index calls c.loop-listed-test.false in

@@ -5,7 +5,7 @@ use Rattle.week.proofs.run.run_list.Given as goal
 
 abbrev pub invariant-loop-listed : goal.invariant-loop-listed
 invariant-loop-listed g l =
-    let step = sheet_step g.Figure.Kind.means (g.C.Conversion.rule l.c) (size l.initial.sheet) in
+    let step = sheet_step g.C.Figure.Kind.means (g.C.Conversion.rule l.c) (size l.initial.sheet) in
     let first = seen l.initial.sheet l.initial.marks l.initial.figures in
     let done = take l.listed-index l.calls in
     (l.listed-index ≤ length l.calls)

@@ -5,7 +5,7 @@ use Rattle.week.proofs.run.step_listed.Goals as goal
 
 pub returns-then-brings-own : goal.returns-then-brings-own
 returns-then-brings-own g c =
-    let k = g.Figure.Kind.means in
+    let k = g.C.Figure.Kind.means in
     let rule = g.C.Conversion.rule c.args.c.now in
     let q = c.args.listed.now in
     let o = ap (λ n. own n q.marks q.figures) (sym c.requires.rows) ∙ sym c.brings-own.ensures ∙ c.if-brings-own.true in
@@ -17,7 +17,7 @@ returns-then-brings-own g c =
 
 pub returns-else-brings-own : goal.returns-else-brings-own
 returns-else-brings-own g c =
-    let k = g.Figure.Kind.means in
+    let k = g.C.Figure.Kind.means in
     let rule = g.C.Conversion.rule c.args.c.now in
     let s = c.args.sheet in
     let q = c.args.listed.now in

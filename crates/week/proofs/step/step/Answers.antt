@@ -4,7 +4,7 @@ use Rattle.week.proofs.step.step.Goals as goal
 
 pub returns-in-Closed : goal.returns-in-Closed
 returns-in-Closed g c =
-    let k = g.Figure.Kind.means in
+    let k = g.C.Figure.Kind.means in
     let rule = g.C.Conversion.rule c.args.c.now in
     let ms = c.args.marks.now in
     let xs = c.args.figures.now in

@@ -5,7 +5,7 @@ use Rattle.week.proofs.step.step_open.Goals as goal
 
 pub returns-in-Close : goal.returns-in-Close
 returns-in-Close g c =
-    let k = g.Figure.Kind.means in
+    let k = g.C.Figure.Kind.means in
     let rule = g.C.Conversion.rule c.args.c.now in
     let ms = c.args.marks.now in
     let xs = c.args.figures.now in
