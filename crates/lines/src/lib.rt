@@ -1,4 +1,6 @@
 // The lines of the table program: what each one asks, and what is printed for it.
+#![tactic(auto)]
+
 mod digits;
 mod fill;
 pub mod function;

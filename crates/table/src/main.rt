@@ -1,4 +1,6 @@
 // The table program: each line of standard input is answered by a line of standard output.
+#![tactic(auto)]
+
 use lines::session::Session;
 use std::io;
 use std::io::{BufReader, BufWriter, Read, Write};

@@ -1,4 +1,6 @@
 //! Values of the functions, computed of their definitions.
+#![tactic(auto)]
+
 ghost use Rattle.std.specs.Prelude.{◌≡◌};
 ghost use Rattle.values.specs.AnnexF.{AnnexF};
 ghost use Rattle.values.specs.Known.{known_values, Stand};

@@ -5,12 +5,12 @@ use Rattle.ledger.specs.Mirrors.{mirror_listed}
 use Rattle.week.proofs.Lawful.{law_stands}
 use Rattle.week.proofs.mirror.mirrored.Goals as goal
 
-pub returns-in-err-push : goal.returns-in-err-push
-returns-in-err-push g c =
+pub returns-in_err-push : goal.returns-in_err-push
+returns-in_err-push g c =
     let k = g.C.Figure.Kind.means in
     let self = c.args.c.now in
     record {
-      list = IfOk-from_err c.from-residual.result _ c.from-residual.ensures.0;
+      list = IfOk-from_err c.from_residual.result _ c.from_residual.ensures.0;
       week = λ zero_finite n few. (law_stands k (g.C.Conversion.rule self) g.met.C.Figure.Kind.lawful (g.met.C.Conversion.sound self) n few c.args.calls.now).mirrored zero_finite (g.met.C.Odd.mirrored self);
     }
 
@@ -22,8 +22,8 @@ loop-listed-preserved g c =
     let q = c.listed-item.result in
     let old = vec_items c.loop-listed.mirror in (
       omega arith,
-      c.in-ok-push.ensures.items
-          ∙ ap (λ z. old ++ (record { marks = q.marks; figures = q.figures; call = z } ∷ [])) c.mirrored-call.ensures
+      c.in_ok-push.ensures.items
+          ∙ ap (λ z. old ++ (record { marks = q.marks; figures = q.figures; call = z } ∷ [])) c.mirrored_call.ensures
           ∙ ap (λ l. l ++ (f q ∷ [])) c.loop-listed.invariant.1
           ∙ ap (λ y. map f (take i calls) ++ (f y ∷ [])) c.listed-item.is
           ∙ sym (map_more f calls i q c.loop-listed-test.true),

@@ -9,4 +9,4 @@ returns g c =
     let v = c.new-v.result in
     let none = c.new-v.ensures.len in
     let all : n - vec_len v ≡ n = omega arith in
-    c.in-ok-resize.ensures.items ∙ ap (λ l. take n l ++ replicate (n - vec_len v) x) c.new-v.ensures.items ∙ take_none n (replicate (n - vec_len v) x) ∙ ap (λ m. replicate m x) all
+    c.in_ok-resize.ensures.items ∙ ap (λ l. take n l ++ replicate (n - vec_len v) x) c.new-v.ensures.items ∙ take_none n (replicate (n - vec_len v) x) ∙ ap (λ m. replicate m x) all

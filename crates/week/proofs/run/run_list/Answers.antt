@@ -5,19 +5,19 @@ use Rattle.week.specs.Weeks.{size, seen, replied, sheet_step, FitsIn}
 use Rattle.week.proofs.Listing.{run_more, replies_more, fits_at}
 use Rattle.week.proofs.run.run_list.Goals as goal
 
-pub step-listed-next-requires : goal.step-listed-next-requires
-step-listed-next-requires g c =
+pub step_listed-next-requires : goal.step_listed-next-requires
+step_listed-next-requires g c =
     let inv = c.loop-listed.invariant in
-    let om = c.args.other-marks.now in
-    let ox = c.args.other-figures.now in
+    let om = c.args.other_marks.now in
+    let ox = c.args.other_figures.now in
     let q = c.listed-item.result in
     let nought = g.C.Figure.Kind.means.nought in
     let fits = fits_at (length om) (length ox) c.args.calls.now c.loop-listed.listed-index q c.requires.fits c.loop-listed-test.true c.listed-item.is in
     record {
       rows = c.loop-listed.auto.marks ∙ c.requires.rows ∙ sym inv.3;
-      fits = subst (λ l. FitsIn (length l) (length c.loop-listed.other-figures) q) (sym inv.4) (subst (λ l. FitsIn (length om) (length l) q) (sym inv.5) fits);
-      fresh-marks = subst (λ l. l ≡ replicate (length l) 0) (sym inv.4) c.requires.fresh-marks;
-      fresh-figures = subst (λ l. l ≡ replicate (length l) nought) (sym inv.5) c.requires.fresh-figures;
+      fits = subst (λ l. FitsIn (length l) (length c.loop-listed.other_figures) q) (sym inv.4) (subst (λ l. FitsIn (length om) (length l) q) (sym inv.5) fits);
+      fresh_marks = subst (λ l. l ≡ replicate (length l) 0) (sym inv.4) c.requires.fresh_marks;
+      fresh_figures = subst (λ l. l ≡ replicate (length l) nought) (sym inv.5) c.requires.fresh_figures;
     }
 
 pub loop-listed-preserved : goal.loop-listed-preserved
@@ -32,7 +32,7 @@ loop-listed-preserved g c =
     let q = c.listed-item.result in
     let before = seen c.loop-listed.sheet c.loop-listed.marks c.loop-listed.figures in
     let inv = c.loop-listed.invariant in
-    let next = c.step-listed-next in
+    let next = c.step_listed-next in
     let p = next.ensures.step in
     let a = next.result.1 in
     let old = c.loop-listed.answers in
@@ -48,8 +48,8 @@ loop-listed-preserved g c =
       omega arith,
       omega arith,
       p.same_size ∙ inv.3,
-      next.ensures.other-marks ∙ inv.4,
-      next.ensures.other-figures ∙ inv.5,
+      next.ensures.other_marks ∙ inv.4,
+      next.ensures.other_figures ∙ inv.5,
       p.after
           ∙ ap (λ m. (sheet_step k rule m before q).after) inv.3
           ∙ ap (λ s. (step s q).after) inv.6

@@ -8,4 +8,4 @@ returns-in-Closed g c =
     let rule = g.C.Conversion.rule c.args.c.now in
     let ms = c.args.marks.now in
     let xs = c.args.figures.now in
-    subst (λ s. Stepped k rule s ms xs c.args.call.now c.step-closed.result.0 ms xs c.step-closed.result.1) (sym c.in-Closed.is) (c.step-closed.ensures rule)
+    subst (λ s. Stepped k rule s ms xs c.args.call.now c.step_closed.result.0 ms xs c.step_closed.result.1) (sym c.in-Closed.is) (c.step_closed.ensures rule)
