@@ -1,5 +1,7 @@
 //! Examples of kinds, conversions and refusals. Expected values follow from the rules of docs/CONVERSIONS.md and
 //! docs/REFUSALS.md, and from exact arithmetic.
+#![tactic(auto)]
+
 #[cfg(test)]
 mod cents;
 #[cfg(test)]

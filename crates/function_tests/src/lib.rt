@@ -1,5 +1,7 @@
 //! Examples of every function. Expected bits are libm's, built from its own files, or follow from the C standard or
 //! from exact arithmetic; the functions here made none of them.
+#![tactic(auto)]
+
 #[cfg(test)]
 mod bands;
 #[cfg(test)]

@@ -1,3 +1,5 @@
+#![tactic(auto)]
+
 // Examples of the table program's lines, each against the rules of docs/TABLE.md.
 #[cfg(test)]
 mod cutting;

@@ -14,8 +14,8 @@ returns g c ok =
     let f = vec_items c.add-4.new.calls in
     let h = vec_items c.add-5.new.calls in
     let last : h ≡ f ++ (own_call n (Exceeds c.args.limit) ∷ []) = c.add-5.ensures ∙ ap (λ v. cond v (f ++ (own_call n (Exceeds c.args.limit) ∷ [])) f) ok in
-    let one = c.in-ok-add.ensures in
-    let two = pushed a b d (own_call n OnAll ∷ []) (own_call n Close) one c.in-ok-add-2.ensures in
-    let three = pushed a d e (own_call n OnAll ∷ own_call n Close ∷ []) (own_call n Total) two c.in-ok-add-3.ensures in
-    let four = pushed a e f (own_call n OnAll ∷ own_call n Close ∷ own_call n Total ∷ []) (own_call n Mean) three c.in-ok-add-4.ensures in
+    let one = c.in_ok-add.ensures in
+    let two = pushed a b d (own_call n OnAll ∷ []) (own_call n Close) one c.in_ok-add-2.ensures in
+    let three = pushed a d e (own_call n OnAll ∷ own_call n Close ∷ []) (own_call n Total) two c.in_ok-add-3.ensures in
+    let four = pushed a e f (own_call n OnAll ∷ own_call n Close ∷ own_call n Total ∷ []) (own_call n Mean) three c.in_ok-add-4.ensures in
     pushed a f h (own_call n OnAll ∷ own_call n Close ∷ own_call n Total ∷ own_call n Mean ∷ []) (own_call n (Exceeds c.args.limit)) four last

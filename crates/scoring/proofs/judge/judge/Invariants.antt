@@ -4,4 +4,4 @@ use Rattle.scoring.specs.Scores.{judgement}
 use Rattle.scoring.proofs.judge.judge.Given as goal
 
 abbrev pub invariant-loop-i : goal.invariant-loop-i
-invariant-loop-i g l = (l.i ≤ length l.answers) × (judgement 0 None None (map replied l.answers) ≡ judgement l.i l.so-far.total l.so-far.mean (map replied (drop l.i l.answers)))
+invariant-loop-i g l = (l.i ≤ length l.answers) × (judgement 0 None None (map replied l.answers) ≡ judgement l.i l.so_far.total l.so_far.mean (map replied (drop l.i l.answers)))
