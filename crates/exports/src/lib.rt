@@ -1,6 +1,8 @@
 //! The twelve functions for programs in C and Rust, which link them as a static library.
 //!
 //! Each symbol is the function's name behind `wumelisorn_`, so that none is a name of the C library.
+#![tactic(auto)]
+
 ghost use Rattle.std.specs.Prelude.{◌≡◌};
 ghost use Rattle.exponential.specs.Exp.{exp_of};
 ghost use Rattle.exponential.specs.Expm1.{expm1_of};

@@ -1,5 +1,5 @@
 -- Something of every element of a list. Assumes nothing.
-use Rattle.std.proofs.Common.{◌≡◌, ℕ, zero, suc, Bool, true, false, cond, List, [], ◌∷◌, map, get_or, set, replicate, refl, ap, ◌∙◌}
+use Rattle.std.proofs.Common.{◌≡◌, ℕ, zero, suc, Bool, true, false, cond, List, [], ◌∷◌, map, get_or, set, replicate, refl, ap}
 use Rattle.ledger.specs.Mirrors.{Each}
 
 module _ {A : Type 0} (P : A → Type 0) where

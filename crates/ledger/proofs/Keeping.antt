@@ -1,6 +1,6 @@
 -- What the ledger of every list of calls keeps. Assumes nothing.
-use Rattle.std.proofs.Common.{◌≡◌, ℕ, suc, Bool, true, false, cond, not, ◌&&◌, leb, List, [], ◌∷◌, map, length, get_or, set, replicate, Ok, Err, Result, sym, refl, ap, ◌∙◌, subst, arith, length-set}
-use lib.ListN.{length-map, length-replicate}
+use Rattle.std.proofs.Common.{◌≡◌, ℕ, suc, Bool, true, false, cond, not, leb, List, [], ◌∷◌, length, Ok, Err, Result, sym, refl, ap, ◌∙◌, arith, length-set}
+use lib.ListN.{length-map}
 use Rattle.refusals.specs.Refusals.{Told}
 use Rattle.kinds.specs.Kinds.{Meaning}
 use Rattle.conversion.specs.Conversions.{Rule, Sound, in_range}
@@ -11,9 +11,9 @@ use Rattle.ledger.specs.declared.call.Call.{Call}
 use Rattle.ledger.specs.declared.call.Call.TheVariants.{Enter, On, OnAll, Back, Clear, Read, Close, Reopen, Total, Mean, Exceeds}
 use Rattle.ledger.specs.declared.call.Listed.{Listed}
 use Rattle.ledger.specs.Marks.{held}
-use Rattle.ledger.specs.Refusals.{memory, no_such_row, is_held, not_a_number, is_free, wrong_way, at_row}
-use Rattle.ledger.specs.Rules.{Row, refuse, and_then, row_by_row, enter_rule, clear_rule, read_rule, on_mark, on_rule, back_mark, back_rule, convertible, on_all_rule, close_rule, total_rule, mean_rule, exceeds_rule}
-use Rattle.ledger.specs.Ledgers.{Ledger, Reply, done, row, amount, verdict, refused, left_out, reply, Step, has, own, free_row, new_ledger, stays, puts, becomes, turned_by, turn_row, turns_all, row_of, own_step, ledger_step, run, replies}
+use Rattle.ledger.specs.Refusals.{no_such_row, is_held, not_a_number, is_free, at_row}
+use Rattle.ledger.specs.Rules.{Row, refuse, and_then, row_by_row, enter_rule, clear_rule, on_mark, on_rule, back_mark, back_rule, convertible, on_all_rule, close_rule}
+use Rattle.ledger.specs.Ledgers.{Ledger, Reply, done, row, amount, verdict, refused, left_out, Step, has, own, free_row, new_ledger, puts, becomes, turned_by, turn_row, turns_all, row_of, own_step, ledger_step, run, replies}
 use Rattle.ledger.specs.Mirrors.{Each, Each2, for_figure, refused_for_figure}
 use Rattle.ledger.proofs.Each.{each_set, each_at, each_replicate, each_map, either}
 

@@ -1,5 +1,5 @@
 -- The ledger of a mirrored list of calls mirrors the ledger of the list. Assumes nothing.
-use Rattle.std.proofs.Common.{◌≡◌, ℕ, suc, ◌≤◌, Bool, true, false, cond, not, leb, List, [], ◌∷◌, map, length, get_or, set, Ok, Err, Result, sym, refl, ap, ◌∙◌, subst, arith}
+use Rattle.std.proofs.Common.{◌≡◌, ℕ, suc, ◌≤◌, Bool, true, false, cond, not, leb, List, [], ◌∷◌, map, length, set, Ok, Err, Result, sym, refl, ap, ◌∙◌, subst, arith}
 use lib.ListN.{length-map, get_or-map}
 use lib.Seq.{map-set}
 use Rattle.std.specs.Result.{result_map_both}
@@ -13,9 +13,9 @@ use Rattle.ledger.specs.declared.call.Call.{Call}
 use Rattle.ledger.specs.declared.call.Call.TheVariants.{Enter, On, OnAll, Back, Clear, Read, Close, Reopen, Total, Mean, Exceeds}
 use Rattle.ledger.specs.declared.call.Listed.{Listed}
 use Rattle.ledger.specs.Marks.{held, is_plain}
-use Rattle.ledger.specs.Refusals.{memory, no_such_row, is_held, not_a_number, is_free, wrong_way, still_plain, at_row}
+use Rattle.ledger.specs.Refusals.{memory, no_such_row, is_held, not_a_number, still_plain, at_row}
 use Rattle.ledger.specs.Rules.{Row, refuse, and_then, row_by_row, enter_rule, clear_rule, read_rule, on_mark, on_rule, back_mark, back_rule, on_all_rule, not_plain, close_rule}
-use Rattle.ledger.specs.Ledgers.{Ledger, Reply, done, row, refused, left_out, reply, Step, has, own, free_row, new_ledger, stays, puts, becomes, turn_row, turned_by, turns_all, row_of, own_step, ledger_step, run, replies}
+use Rattle.ledger.specs.Ledgers.{Ledger, row, refused, left_out, reply, Step, has, own, free_row, new_ledger, stays, puts, becomes, turn_row, turned_by, turns_all, row_of, own_step, ledger_step, run, replies}
 use Rattle.ledger.specs.Mirrors.{Each, Each2, turn_held, mirror_row, mirror_ledger, mirror_call, mirror_listed, Alike}
 use Rattle.ledger.proofs.Each.{each_at, each_map, map_replicate}
 use Rattle.ledger.proofs.Keeping.{Good, GoodAt, step_good, step_length, all_convertible}

@@ -1,5 +1,5 @@
 -- The totals of a ledger and of its mirror. Assumes nothing.
-use Rattle.std.proofs.Common.{◌≡◌, ℕ, zero, suc, ◌+◌, ◌≤◌, Bool, true, false, cond, not, ◌&&◌, eqb, List, [], ◌∷◌, map, length, Ok, Err, Result, sym, refl, ap, ◌∙◌, subst, arith}
+use Rattle.std.proofs.Common.{◌≡◌, ℕ, suc, ◌+◌, ◌≤◌, Bool, true, false, cond, not, ◌&&◌, eqb, List, [], ◌∷◌, map, length, Ok, Err, Result, sym, refl, ap, subst, arith}
 use Rattle.std.proofs.lemmas.Bool.Decides.{nat_tests}
 use Rattle.refusals.specs.Refusals.{Told}
 use Rattle.kinds.specs.Kinds.{Meaning, Lawful, Summable, sum}
@@ -8,7 +8,7 @@ use Rattle.ledger.specs.declared.mark.Mark.TheVariants.{Free, Plain, Turned}
 use Rattle.ledger.specs.Marks.{is_turned}
 use Rattle.ledger.specs.Refusals.{not_finite, sum_is_infinite, nothing_turned, no_limit}
 use Rattle.ledger.specs.Rules.{Row, refuse, and_then, row_by_row, turned_count, some_turned, added, total_rule, mean_rule, exceeds_rule}
-use Rattle.ledger.specs.Ledgers.{Reply, amount, verdict, reply}
+use Rattle.ledger.specs.Ledgers.{amount, verdict, reply}
 use Rattle.ledger.specs.Mirrors.{mirror_row, Alike}
 
 module _ {K : Type 0} (k : Meaning K) where

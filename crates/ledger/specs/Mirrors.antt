@@ -1,6 +1,5 @@
 -- What is said of rows and replies over a list of calls, and of the week that mirrors another.
-use Rattle.std.specs.Prelude.{◌≡◌, ℕ, Bool, true, false, ◌||◌, List, [], ◌∷◌, map, ◌==◌}
-use Rattle.refusals.specs.Refusals.{Told}
+use Rattle.std.specs.Prelude.{◌≡◌, ℕ, Bool, false, List, [], ◌∷◌, map, ◌==◌}
 use Rattle.kinds.specs.Kinds.{Meaning, Same}
 use Rattle.ledger.specs.declared.mark.Mark.{Mark}
 use Rattle.ledger.specs.declared.mark.Mark.TheVariants.{Free, Plain, Turned}

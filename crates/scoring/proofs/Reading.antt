@@ -1,8 +1,7 @@
 -- One answer more, and one row more. Assumes nothing.
-use Rattle.std.proofs.Common.{◌≡◌, ℕ, suc, ◌+◌, ◌<◌, ◌≤◌, List, [], ◌∷◌, ◌++◌, map, length, get_or, drop, Option, sym, refl, ap, ◌∙◌, append_assoc, add-one}
+use Rattle.std.proofs.Common.{◌≡◌, ℕ, suc, ◌+◌, ◌<◌, ◌≤◌, List, [], ◌∷◌, ◌++◌, map, length, get_or, drop, Option, sym, ap, ◌∙◌, append_assoc, add-one}
 use Rattle.std.proofs.lemmas.List.{drop_more, drop_all}
 use Rattle.ledger.specs.declared.call.Listed.{Listed}
-use Rattle.ledger.specs.Ledgers.{Reply}
 use Rattle.week.specs.declared.answer.Answer.{Answer}
 use Rattle.week.specs.Weeks.{replied}
 use Rattle.scoring.specs.Scores.{Verdict, Reading, next, followed, judgement, enters_one, enters}

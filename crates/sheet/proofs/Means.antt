@@ -1,5 +1,5 @@
 -- The mean of a sheet by its count and its total. Assumes nothing.
-use Rattle.std.proofs.Common.{◌≡◌, ℕ, zero, suc, ◌≤◌, List, length, Some, None, Ok, Err, Option, Result, sym, refl, ap, ◌∙◌, arith}
+use Rattle.std.proofs.Common.{◌≡◌, ℕ, ◌≤◌, List, length, None, Ok, Err, Option, Result, sym, ap, ◌∙◌, arith}
 use Rattle.std.proofs.lemmas.Bool.Decides.{nat_tests}
 use Rattle.refusals.specs.Refusals.{Told}
 use Rattle.kinds.specs.Kinds.{Meaning}
@@ -8,7 +8,7 @@ use Rattle.kinds.specs.declared.count.Count.{Count}
 use Rattle.ledger.specs.Refusals.{nothing_turned}
 use Rattle.ledger.specs.Rules.{and_then, some_turned, total_rule, mean_rule}
 use Rattle.sheet.specs.declared.refusal.Refusal.{Refusal}
-use Rattle.sheet.specs.Refusals.{told, answered}
+use Rattle.sheet.specs.Refusals.{answered}
 use Rattle.sheet.specs.Sheets.{rows_of, turned_bytes, counts}
 use Rattle.sheet.proofs.Walking.{count_rows}
 

@@ -5,7 +5,7 @@ use Rattle.refusals.specs.Refusals.{Told}
 use Rattle.ledger.specs.Marks.{mark_of, is_turned}
 use Rattle.ledger.specs.Rules.{Row, and_then, row_by_row, turned_count}
 use Rattle.sheet.specs.declared.refusal.Refusal.{Refusal}
-use Rattle.sheet.specs.Refusals.{told, answered}
+use Rattle.sheet.specs.Refusals.{answered}
 use Rattle.sheet.specs.Sheets.{rows_of, turned_bytes}
 
 module _ {K : Type 0} (ms : List ℕ) (xs : List K) (i : ℕ) where

@@ -1,5 +1,7 @@
 //! Examples of sheets and weeks. Expected values follow from the rules of docs/SHEET.md, from exact arithmetic, and
 //! from the special values of the C standard.
+#![tactic(auto)]
+
 #[cfg(test)]
 mod altered;
 #[cfg(test)]

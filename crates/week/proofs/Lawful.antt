@@ -1,7 +1,6 @@
 -- The law of a week stands for every list of calls. Assumes nothing.
-use Rattle.std.proofs.Common.{◌≡◌, ℕ, suc, ◌≤◌, Bool, true, false, cond, not, ◌&&◌, List, [], ◌∷◌, map, length, replicate, Ok, Err, Result, sym, refl, ap, ◌∙◌, subst, arith}
+use Rattle.std.proofs.Common.{◌≡◌, ℕ, suc, ◌≤◌, Bool, true, false, cond, not, ◌&&◌, List, [], ◌∷◌, map, length, Ok, sym, refl, ap, ◌∙◌, subst, arith}
 use lib.ListN.{length-replicate}
-use Rattle.refusals.specs.Refusals.{Told}
 use Rattle.kinds.specs.Kinds.{Meaning, Lawful, sum}
 use Rattle.conversion.specs.Conversions.{Rule, Sound, Mirrored, in_range}
 use Rattle.conversion.specs.Layers.{number_in}
@@ -10,14 +9,14 @@ use Rattle.ledger.specs.declared.mark.Mark.TheVariants.{Free, Plain, Turned}
 use Rattle.ledger.specs.declared.call.Listed.{Listed}
 use Rattle.ledger.specs.Marks.{byte_of, held, is_turned}
 use Rattle.ledger.specs.Refusals.{not_finite, sum_is_infinite}
-use Rattle.ledger.specs.Rules.{Row, refuse, and_then, row_by_row, added, total_rule}
-use Rattle.ledger.specs.Ledgers.{Ledger, Reply, new_ledger, free_row, ledger_step, run, replies}
+use Rattle.ledger.specs.Rules.{Row, refuse, and_then, row_by_row, added}
+use Rattle.ledger.specs.Ledgers.{new_ledger, free_row, ledger_step, run, replies}
 use Rattle.ledger.specs.Mirrors.{Each, Each2, refused_for_figure, turn_held, mirror_row, mirror_ledger, mirror_listed, Alike}
 use Rattle.ledger.proofs.Each.{each_also}
-use Rattle.ledger.proofs.Keeping.{Good, GoodAt, Came, came_in, run_good, run_fair, new_good}
+use Rattle.ledger.proofs.Keeping.{Good, GoodAt, came_in, run_good, run_fair, new_good}
 use Rattle.ledger.proofs.Mirroring.{run_mirror, replies_mirror, new_mirror}
 use Rattle.sheet.specs.Sheets.{rows_of}
-use Rattle.week.specs.Weeks.{Sheet, sheet_of, sheet_step, new_sheet}
+use Rattle.week.specs.Weeks.{sheet_step}
 use Rattle.week.specs.Law.{shown, turned_figures, sheet_after, sheet_replies, ledger_after, ledger_replies, rows_after, MirroredWeek, Law}
 use Rattle.week.proofs.Showing.{rows_shown, run_shown, replies_shown, new_shown}
 

@@ -1,16 +1,15 @@
 -- A call of a list, with the sheet's own slices or with other memory. Assumes nothing.
-use Rattle.std.proofs.Common.{◌≡◌, ℕ, zero, suc, ◌+◌, ◌<◌, ◌≤◌, Bool, true, false, cond, List, [], ◌∷◌, ◌++◌, map, length, get_or, take, drop, replicate, sym, refl, ap, ◌∙◌, subst, arith, take-append-drop}
+use Rattle.std.proofs.Common.{◌≡◌, ℕ, zero, suc, ◌+◌, ◌<◌, ◌≤◌, Bool, true, false, cond, List, [], ◌∷◌, ◌++◌, length, get_or, take, drop, replicate, sym, refl, ap, ◌∙◌, subst, arith, take-append-drop}
 use lib.ListN.{length-replicate}
-use Rattle.std.proofs.lemmas.List.{take-replicate, take_more, map_push}
+use Rattle.std.proofs.lemmas.List.{take-replicate, take_more}
 use Rattle.kinds.specs.Kinds.{Meaning}
 use Rattle.conversion.specs.Conversions.{Rule}
-use Rattle.ledger.specs.declared.call.Call.{Call}
 use Rattle.ledger.specs.declared.call.Listed.{Listed}
 use Rattle.ledger.specs.Ledgers.{own, Step, run, replies}
 use Rattle.ledger.specs.Mirrors.{Each}
 use Rattle.week.specs.declared.answer.Answer.{Answer}
 use Rattle.week.specs.declared.head.Sheet.{Sheet as Headed}
-use Rattle.week.specs.Weeks.{Sheet, sheet_of, is_closed, seen, size, called_at, aside, sheet_step, Stepped, SteppedListed, FitsIn}
+use Rattle.week.specs.Weeks.{Sheet, sheet_of, is_closed, seen, size, called_at, aside, Stepped, SteppedListed, FitsIn}
 use Rattle.week.proofs.Showing.{other_stays}
 
 module _ {K : Type 0} (k : Meaning K) (c : Rule K) (s t : Headed) (ms : List ℕ) (xs : List K) (q : Listed K) (a : Answer K) where

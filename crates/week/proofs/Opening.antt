@@ -1,5 +1,5 @@
 -- What an open gave. Assumes nothing.
-use Rattle.std.proofs.Common.{◌≡◌, ℕ, Bool, true, false, not, ◌&&◌, eqb, leb, List, length, replicate, Ok, Err, Result, sym, refl, ap, ◌∙◌, arith}
+use Rattle.std.proofs.Common.{◌≡◌, ℕ, Bool, true, false, not, ◌&&◌, eqb, leb, List, length, Ok, Err, Result, sym, refl, ap, arith}
 use Rattle.refusals.specs.Refusals.{Told}
 use Rattle.kinds.specs.Kinds.{Meaning}
 use Rattle.ledger.specs.Refusals.{memory}
@@ -7,8 +7,8 @@ use Rattle.ledger.specs.Rules.{refuse}
 use Rattle.sheet.specs.declared.heads.OpenSheet.{OpenSheet}
 use Rattle.sheet.specs.declared.refusal.Refusal.{Refusal}
 use Rattle.sheet.specs.Refusals.{told}
-use Rattle.sheet.specs.Sheets.{Outcome, openable, fresh, opens, opened}
-use Rattle.week.specs.Weeks.{Sheet, sheet_of, new_sheet}
+use Rattle.sheet.specs.Sheets.{openable, fresh, opens, opened}
+use Rattle.week.specs.Weeks.{sheet_of, new_sheet}
 
 module _ {K : Type 0} (k : Meaning K) (ms : List ℕ) (xs : List K) (ms' : List ℕ) (xs' : List K) where
   pub open_refused : (e : Refusal) → opens (Err e) ms' xs' ≡ opened k ms xs → (openable (length ms) (length xs) ≡ Err (told e)) × (ms' ≡ ms) × (xs' ≡ xs)

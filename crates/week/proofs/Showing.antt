@@ -1,5 +1,5 @@
 -- The sheet shows its ledger, call by call. Assumes nothing.
-use Rattle.std.proofs.Common.{◌≡◌, ℕ, Bool, true, false, cond, not, ◌&&◌, eqb, List, [], ◌∷◌, map, length, get_or, set, replicate, Ok, Err, Result, sym, refl, ap, ◌∙◌, arith}
+use Rattle.std.proofs.Common.{◌≡◌, ℕ, Bool, true, false, cond, not, List, [], ◌∷◌, map, length, get_or, set, replicate, Ok, Err, Result, sym, refl, ap, ◌∙◌, arith}
 use lib.ListN.{length-map, length-replicate, get_or-map}
 use lib.Seq.{map-set}
 use Rattle.std.proofs.lemmas.Bool.Decides.{nat_tests}
@@ -14,7 +14,7 @@ use Rattle.ledger.specs.declared.call.Listed.{Listed}
 use Rattle.ledger.specs.Marks.{mark_of, byte_of, is_plain}
 use Rattle.ledger.specs.Refusals.{memory}
 use Rattle.ledger.specs.Rules.{Row, refuse, and_then, enter_rule, clear_rule, read_rule, on_rule, back_rule, close_rule, on_all_rule, total_rule, mean_rule, exceeds_rule}
-use Rattle.ledger.specs.Ledgers.{Ledger, Reply, done, row, amount, verdict, refused, left_out, reply, Step, has, own, free_row, new_ledger, stays, puts, becomes, turn_row, turned_by, turns_all, row_of, own_step, ledger_step, run, replies}
+use Rattle.ledger.specs.Ledgers.{Ledger, done, row, amount, verdict, refused, left_out, reply, Step, has, own, free_row, new_ledger, stays, puts, becomes, turn_row, turned_by, turns_all, row_of, own_step, ledger_step, run, replies}
 use Rattle.ledger.proofs.Each.{map_replicate}
 use Rattle.ledger.proofs.Keeping.{step_length}
 use Rattle.sheet.specs.Sheets.{rows_of, row_at, put, put_all, of_sheet, mark_on, figures_on, head_of}

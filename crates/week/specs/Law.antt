@@ -1,6 +1,6 @@
 -- The law of a week: what is true after every list of calls on a new sheet of n rows, whatever the calls are, carried out
 -- or refused, in any order.
-use Rattle.std.specs.Prelude.{◌≡◌, ℕ, Bool, true, false, cond, List, [], ◌∷◌, map, length, Ok, Err, vec_items, Result}
+use Rattle.std.specs.Prelude.{◌≡◌, ℕ, true, false, cond, List, [], ◌∷◌, map, length, Ok, Err, vec_items, Result}
 use Rattle.kinds.specs.Kinds.{Meaning, sum}
 use Rattle.conversion.specs.Conversions.{Rule, Mirrored, in_range}
 use Rattle.ledger.specs.declared.call.Listed.{Listed}

@@ -1,5 +1,5 @@
 -- A sheet over a list of calls, by what its calls are defined to do.
-use Rattle.std.specs.Prelude.{◌≡◌, ℕ, ◌≤◌, Bool, true, false, cond, List, [], ◌∷◌, map, replicate, Ok, Err, Result}
+use Rattle.std.specs.Prelude.{◌≡◌, ℕ, ◌≤◌, Bool, true, false, cond, List, replicate, Ok, Err, Result}
 use Rattle.refusals.specs.Refusals.{Told}
 use Rattle.kinds.specs.Kinds.{Meaning}
 use Rattle.conversion.specs.Conversions.{Rule}
@@ -12,7 +12,6 @@ use Rattle.ledger.specs.Ledgers.{Reply, done, row, amount, verdict, refused, lef
 use Rattle.sheet.specs.Refusals.{told}
 use Rattle.sheet.specs.Sheets.{Slices, Outcome, entered, cleared, row_read, turned_on, all_turned_back, all_turned_on, closing, reopening, totalled, averaged, compared}
 use Rattle.week.specs.declared.answer.Answer.{Answer}
-use Rattle.week.specs.declared.answer.Answer.TheVariants as Answer
 use Rattle.week.specs.declared.head.Sheet.{Sheet as Headed}
 use Rattle.week.specs.declared.head.Sheet.TheVariants as Head
 

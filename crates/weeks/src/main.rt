@@ -1,4 +1,6 @@
 //! Some weeks on new sheets, each call with what it is answered. Floats are printed as the digits of their bits.
+#![tactic(auto)]
+
 mod show;
 
 use anyhow::anyhow;

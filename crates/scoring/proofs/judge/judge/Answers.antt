@@ -1,4 +1,4 @@
-use Rattle.std.proofs.Common.{Ok, Err, sym, ap, ◌∙◌, arith}
+use Rattle.std.proofs.Common.{Ok, Err, sym, ◌∙◌, arith}
 use Rattle.scoring.specs.Readings.{reading}
 use Rattle.scoring.proofs.Reading.{judge_more, judge_end}
 use Rattle.scoring.proofs.judge.judge.Goals as goal

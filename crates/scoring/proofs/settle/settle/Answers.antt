@@ -1,7 +1,7 @@
-use Rattle.std.proofs.Common.{◌≡◌, map, length, None, vec_items, sym, ap, ◌∙◌, subst}
+use Rattle.std.proofs.Common.{map, length, None, vec_items, ap, ◌∙◌, subst}
 use Rattle.week.specs.Weeks.{replied, seen}
 use Rattle.week.specs.Law.{Carried}
-use Rattle.scoring.specs.Scores.{judgement, week_calls}
+use Rattle.scoring.specs.Scores.{judgement}
 use Rattle.scoring.proofs.settle.settle.Goals as goal
 
 pub returns-in-Ok-carry_out : goal.returns-in-Ok-carry_out

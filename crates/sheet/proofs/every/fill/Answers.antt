@@ -1,4 +1,4 @@
-use Rattle.std.proofs.Common.{◌≡◌, ◌<◌, ◌≤◌, length, replicate, sym, ◌∙◌, arith}
+use Rattle.std.proofs.Common.{◌<◌, length, replicate, sym, arith}
 use lib.ListN.{length-replicate}
 use Rattle.std.proofs.lemmas.List.{get_or-replicate}
 use Rattle.sheet.proofs.Filling.{filled_more, filled_end}

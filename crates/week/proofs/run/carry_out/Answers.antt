@@ -1,8 +1,8 @@
-use Rattle.std.proofs.Common.{◌≡◌, ◌≤◌, length, replicate, sym, refl, ap, ◌∙◌, subst, arith}
+use Rattle.std.proofs.Common.{◌≡◌, ◌≤◌, length, replicate, sym, ap, ◌∙◌, subst}
 use lib.ListN.{length-replicate}
 use Rattle.ledger.specs.Ledgers.{run, replies}
 use Rattle.ledger.specs.Mirrors.{Each}
-use Rattle.week.specs.Weeks.{sheet_of, new_sheet, sheet_step, FitsIn}
+use Rattle.week.specs.Weeks.{sheet_of, sheet_step, FitsIn}
 use Rattle.week.proofs.Opening.{open_refused, open_done}
 use Rattle.week.proofs.Lawful.{law_stands}
 use Rattle.week.proofs.run.carry_out.Goals as goal

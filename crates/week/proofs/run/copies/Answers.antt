@@ -1,4 +1,4 @@
-use Rattle.std.proofs.Common.{◌≡◌, ◌-◌, ◌++◌, take, replicate, vec_items, vec_len, ap, ◌∙◌, arith}
+use Rattle.std.proofs.Common.{◌≡◌, ◌-◌, ◌++◌, take, replicate, vec_len, ap, ◌∙◌, arith}
 use Rattle.week.proofs.Listing.{take_none}
 use Rattle.week.proofs.run.copies.Goals as goal
 

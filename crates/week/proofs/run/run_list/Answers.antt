@@ -1,4 +1,4 @@
-use Rattle.std.proofs.Common.{◌≡◌, ◌+◌, ◌<◌, true, cond, [], ◌∷◌, ◌++◌, map, length, take, replicate, is_ok, vec_items, vec_len, vec_capacity, sym, refl, ap, ◌∙◌, subst, arith, take_all}
+use Rattle.std.proofs.Common.{◌≡◌, ◌+◌, ◌<◌, cond, [], ◌∷◌, ◌++◌, map, length, take, replicate, vec_items, vec_len, vec_capacity, sym, ap, ◌∙◌, subst, arith, take_all}
 use Rattle.std.proofs.lemmas.List.{map_push}
 use Rattle.ledger.specs.Ledgers.{run, replies}
 use Rattle.week.specs.Weeks.{size, seen, replied, sheet_step, FitsIn}
