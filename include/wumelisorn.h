@@ -1,5 +1,5 @@
 /*
- * The twelve functions of Wumelisorn, from the static library target/staticlib/libexports.a.
+ * The twelve functions of Wumelisorn, from the static library crates/exports/out/libexports.a.
  * docs/EXPORTS.md says how to build and link it.
  *
  * Every argument is allowed, and there is nothing to set up. A NaN of any bits, quiet or

@@ -2,7 +2,7 @@
 use Rattle.std.proofs.Common.{◌≡◌, ℕ, ◌+◌, ◌<◌, ◌≤◌, Bool, true, false, cond, eqb, List, [], ◌∷◌, ◌++◌, length, get_or, take, drop, Some, None, Option, sym, refl, ap, ◌∙◌, inl, inr, arith}
 use Rattle.std.proofs.lemmas.List.{append-nil, append_assoc, take_all, length-append, length-take-le, at_drop_more, at_drop_all}
 use Rattle.std.proofs.lemmas.Bool.{cases_lt, eqb-true, eqb-false}
-use Rattle.std.specs.List.{flat_map, AllByRecursion as All}
+use Rattle.std.specs.List.{flat_map, AllByRecursion}
 use Rattle.lines.specs.Replies.{reply_to, answer_to}
 use Rattle.lines.specs.Cutting.{on_first, lines_of, ended, bytes_of, fed, FedRight, CutRight, reply_at, reply_at_end, begun_after}
 use Rattle.lines.proofs.Reading.{too_long}
@@ -67,17 +67,17 @@ fed_right input = fed_is input [] ∙ sym (fresh (lines_of input))
 
 -- no line has a line feed
 abbrev Plain : List ℕ → Type 0
-Plain line = All (λ b. b ≡ 10 → ⊥) line
+Plain line = AllByRecursion (λ b. b ≡ 10 → ⊥) line
 
-plain_first : (b : ℕ) (lines : List (List ℕ)) → (b ≡ 10 → ⊥) → All Plain lines → All Plain (on_first b lines)
+plain_first : (b : ℕ) (lines : List (List ℕ)) → (b ≡ 10 → ⊥) → AllByRecursion Plain lines → AllByRecursion Plain (on_first b lines)
 plain_first b [] h all = ((h, tt), tt)
 plain_first b (line ∷ lines) h all = ((h, all.0), all.1)
 
-plain_at : (b : ℕ) (t : Bool) (lines : List (List ℕ)) → eqb b 10 ≡ t → All Plain lines → All Plain (cond t ([] ∷ lines) (on_first b lines))
+plain_at : (b : ℕ) (t : Bool) (lines : List (List ℕ)) → eqb b 10 ≡ t → AllByRecursion Plain lines → AllByRecursion Plain (cond t ([] ∷ lines) (on_first b lines))
 plain_at b true lines e all = (tt, all)
 plain_at b false lines e all = plain_first b lines (eqb-false b 10 e) all
 
-plain : (input : List ℕ) → All Plain (lines_of input)
+plain : (input : List ℕ) → AllByRecursion Plain (lines_of input)
 plain [] = tt
 plain (b ∷ bs) = plain_at b (eqb b 10) (lines_of bs) refl (plain bs)
 

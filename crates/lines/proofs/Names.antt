@@ -2,7 +2,7 @@
 use Rattle.std.proofs.Common.{◌≡◌, ℕ, ◌≤◌, false, cond, List, [], ◌∷◌, length, get_or, Some, None, sym, refl, ap, ◌∙◌, inl, inr, arith, lit≤}
 use Rattle.std.proofs.lemmas.Slice.Eq.{bytes_eq-Decides}
 use Rattle.std.proofs.lemmas.Bool.{cases_Bool}
-use Rattle.std.specs.List.{AllByRecursion as All}
+use Rattle.std.specs.List.{AllByRecursion}
 use Rattle.std.specs.Str.{bytes_eq}
 use Rattle.lines.specs.declared.function.Function.{Function}
 use Rattle.lines.specs.declared.function.Function.TheVariants.{Expm1, Log1p, Sinh, Cosh, Tanh, Asinh, Acosh, Atanh, Exp, Log, Expm1f, Log1pf}
@@ -26,7 +26,7 @@ one_letter Expm1f = refl
 one_letter Log1pf = refl
 
 -- no name has a space
-pub no_space : (f : Function) → All (λ b. b ≡ 32 → ⊥) (name_of f)
+pub no_space : (f : Function) → AllByRecursion (λ b. b ≡ 32 → ⊥) (name_of f)
 no_space Expm1 = ((λ e. omega arith), tt)
 no_space Log1p = ((λ e. omega arith), tt)
 no_space Sinh = ((λ e. omega arith), tt)

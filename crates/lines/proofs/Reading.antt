@@ -4,7 +4,7 @@ use Rattle.std.proofs.ByRecursion.{All-from_get_or}
 use Rattle.std.proofs.lemmas.Slice.Eq.{bytes_eq-Decides}
 use Rattle.std.proofs.lemmas.List.{take-append-drop, take_all, take_rest, drop_more, get_or-take, length-take-le, length_push}
 use Rattle.std.proofs.lemmas.Bool.{cases_Bool, le-leb, lt-leb, true≢false}
-use Rattle.std.specs.List.{AllByRecursion as All}
+use Rattle.std.specs.List.{AllByRecursion}
 use Rattle.std.specs.Str.{bytes_eq}
 use Rattle.lines.specs.declared.function.Function.{Function}
 use Rattle.lines.specs.declared.question.Question.{Question}
@@ -16,7 +16,7 @@ use Rattle.lines.proofs.Names.{different, no_space, at_most_16}
 use Rattle.lines.proofs.Spelling.{length_written}
 
 abbrev pub Unspaced : List ℕ → Type 0
-Unspaced bytes = All (λ b. b ≡ 32 → ⊥) bytes
+Unspaced bytes = AllByRecursion (λ b. b ≡ 32 → ⊥) bytes
 
 -- what stands before the first space is the same, if the whole is
 same_name : (p q xs ys : List ℕ) → Unspaced p → Unspaced q → p ++ (32 ∷ xs) ≡ q ++ (32 ∷ ys) → p ≡ q

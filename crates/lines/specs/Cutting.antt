@@ -1,6 +1,6 @@
 -- Cutting an input into lines, and what is printed for it. 10 is the line feed.
 use Rattle.std.specs.Prelude.{◌≡◌, ℕ, cond, List, [], ◌∷◌, ◌++◌, take, Some, None, Option, ◌==◌, ◌≢◌}
-use Rattle.std.specs.List.{flat_map, AllByRecursion as All}
+use Rattle.std.specs.List.{flat_map, AllByRecursion}
 use Rattle.lines.specs.Held.{held}
 use Rattle.lines.specs.Replies.{reply_to}
 use Rattle.lines.specs.declared.session.Session.{Session}
@@ -23,7 +23,7 @@ ended (b ∷ c ∷ bs) = b ∷ ended (c ∷ bs)
 
 -- no line has a line feed, and the lines with a line feed after each make up the input
 pub record Cut (input : List ℕ) : Type 0 where
-  pub plain : All (λ line. All (λ b. b ≢ 10) line) (lines_of input)
+  pub plain : AllByRecursion (λ line. AllByRecursion (λ b. b ≢ 10) line) (lines_of input)
   pub whole : flat_map (λ line. line ++ 10 ∷ []) (lines_of input) ≡ ended input
 
 -- what is printed for an input: the reply to each of its lines
