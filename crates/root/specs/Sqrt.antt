@@ -26,7 +26,7 @@ sqrt_of f (fin false (suc m) e) = root_of f (suc m * up e) (down e)
 abbrev pub square : ℕ → ℕ
 square n = n * n
 
--- the sum y + z of two finite values that are not negative, as the fraction `sum_ceiling` / `sum_bottom`
+-- the sum y + z of two finite values that are not negative, as the fraction `sum_top` / `sum_bottom`
 abbrev pub sum_top : Float → Float → ℕ
 sum_top y z = num y * den z + num z * den y
 
