@@ -31,12 +31,12 @@ week_calls sent limit = enters (length sent) 0 sent ++ settling (length sent) li
 
 -- What a week comes to, with a refusal as what is told of it.
 pub data Verdict (K : Type 0) : Type 0 where
-  refused_there : ℕ → Told → Verdict K
+  refused_at : ℕ → Told → Verdict K
   settled : K → Option K → Bool → Verdict K
   unsettled : Verdict K
 
 abbrev pub judged : {K : Type 0} → Judgement K → Verdict K
-judged (Refused i refusal) = refused_there i (told refusal)
+judged (Refused i refusal) = refused_at i (told refusal)
 judged (Settled s) = settled s.total s.mean s.exceeds
 judged Unsettled = unsettled
 
@@ -61,7 +61,7 @@ next i total mean done = goes_on total mean
 next i total mean (row m x) = goes_on total mean
 next i total mean (amount x) = amount_read total mean x
 next i total mean (verdict exceeds) = verdict_read total mean exceeds
-next i total mean (refused t) = cond (t.number == 11) (goes_on total mean) (ends (refused_there i t))
+next i total mean (refused t) = cond (t.number == 11) (goes_on total mean) (ends (refused_at i t))
 next i total mean left_out = goes_on total mean
 
 abbrev pub followed : {K : Type 0} → Reading K → (Option K → Option K → Verdict K) → Verdict K

@@ -1,5 +1,5 @@
 ghost use Rattle.std.specs.Prelude.{◌≡◌, map, None, Ok, Err};
-ghost use Rattle.ledger.specs.Ledgers.{refused as refusedReply};
+ghost use Rattle.ledger.specs.Ledgers.{refused as refused_reply};
 ghost use Rattle.sheet.specs.Refusals.{told};
 ghost use Rattle.week.specs.Weeks.{replied};
 ghost use Rattle.scoring.specs.Scores.{next, amount_read, verdict_read, judged, judgement};
@@ -45,7 +45,7 @@ fn read_refusal<K: Kind>(
     so_far: Amounts<K>,
     refusal: Refusal,
 ) -> Result<Amounts<K>, Judgement<K>>
-    ensures { reading result ≡ next i so_far.total so_far.mean (refusedReply (told refusal)) }
+    ensures { reading result ≡ next i so_far.total so_far.mean (refused_reply (told refusal)) }
 {
     if refusal.number() == 11 {
         return Ok(so_far);

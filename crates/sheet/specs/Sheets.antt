@@ -94,8 +94,8 @@ module _ {K : Type 0} (k : Meaning K) (ms : List ℕ) (xs : List K) where
       abbrev pub turned_on : ℕ → Outcome Unit K
       turned_on i = put ms xs i Turned (of_sheet ms xs n (on_rule k n i (row_at k ms xs i) c))
 
-      abbrev pub all_turned_back : ℕ → Outcome Unit K
-      all_turned_back i = put ms xs i Plain (of_sheet ms xs n (back_rule k n i (row_at k ms xs i) c))
+      abbrev pub turned_back : ℕ → Outcome Unit K
+      turned_back i = put ms xs i Plain (of_sheet ms xs n (back_rule k n i (row_at k ms xs i) c))
 
       abbrev pub all_turned_on : Outcome Unit K
       all_turned_on = put_all c ms xs (of_sheet ms xs n (on_all_rule k c (rows_of ms xs)))

@@ -1,7 +1,7 @@
 //! The open sheet.
 ghost use Rattle.std.specs.Prelude.{◌≡◌};
 ghost use Rattle.sheet.specs.Refusals.{answered};
-ghost use Rattle.sheet.specs.Sheets.{left, opens, opened, entered, turned_on, all_turned_on, all_turned_back, cleared, as_row, row_read, closes, closing};
+ghost use Rattle.sheet.specs.Sheets.{left, opens, opened, entered, turned_on, all_turned_on, turned_back, cleared, as_row, row_read, closes, closing};
 
 use crate::every::{all_convertible, fill, none_plain, turn_all};
 use crate::heads::{ClosedSheet, OpenSheet};
@@ -79,7 +79,7 @@ impl OpenSheet {
         c: &C,
         row: usize,
     ) -> Result<(), Refusal>
-        ensures call { left result marks.new figures.new ≡ all_turned_back C.Figure.Kind.means marks.old figures.old self.old.len (C.Conversion.rule c.now) row }
+        ensures call { left result marks.new figures.new ≡ turned_back C.Figure.Kind.means marks.old figures.old self.old.len (C.Conversion.rule c.now) row }
         ensures head { self.new ≡ self.old }
     {
         own_memory(self.len, marks.len(), figures.len())?;

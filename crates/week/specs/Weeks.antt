@@ -10,7 +10,7 @@ use Rattle.ledger.specs.declared.call.Listed.{Listed}
 use Rattle.ledger.specs.Marks.{byte_of}
 use Rattle.ledger.specs.Ledgers.{Reply, done, row, amount, verdict, refused, left_out, reply, Step, has, own}
 use Rattle.sheet.specs.Refusals.{told}
-use Rattle.sheet.specs.Sheets.{Slices, Outcome, entered, cleared, row_read, turned_on, all_turned_back, all_turned_on, closing, reopening, totalled, averaged, compared}
+use Rattle.sheet.specs.Sheets.{Slices, Outcome, entered, cleared, row_read, turned_on, turned_back, all_turned_on, closing, reopening, totalled, averaged, compared}
 use Rattle.week.specs.declared.answer.Answer.{Answer}
 use Rattle.week.specs.declared.head.Sheet.{Sheet as Headed}
 use Rattle.week.specs.declared.head.Sheet.TheVariants as Head
@@ -65,7 +65,7 @@ module _ {K : Type 0} (k : Meaning K) (c : Rule K) (n : ℕ) where
     called (Enter i x) = changed closed (entered k ms xs n i x)
     called (On i) = changed closed (turned_on k ms xs n c i)
     called OnAll = changed closed (all_turned_on k ms xs n c)
-    called (Back i) = changed closed (all_turned_back k ms xs n c i)
+    called (Back i) = changed closed (turned_back k ms xs n c i)
     called (Clear i) = changed closed (cleared k ms xs n i)
     called (Read i) = unchanged (sheet_of closed ms xs) (reply (λ r. row r.mark r.figure) (row_read k ms xs n i))
     called Close = passed (sheet_of closed ms xs) true (closing k ms xs n)

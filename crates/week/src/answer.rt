@@ -1,5 +1,5 @@
 ghost use Rattle.std.specs.Prelude.{◌≡◌};
-ghost use Rattle.ledger.specs.Ledgers.{reply, done, amount, verdict, row as rowReply};
+ghost use Rattle.ledger.specs.Ledgers.{reply, done, amount, verdict, row as row_reply};
 ghost use Rattle.sheet.specs.Refusals.{answered};
 ghost use Rattle.week.specs.Weeks.{replied};
 
@@ -33,7 +33,7 @@ pub(crate) fn done<K>(r: Result<(), Refusal>) -> Answer<K>
 }
 
 pub(crate) fn row<K>(r: Result<(Mark, K), Refusal>) -> Answer<K>
-    ensures { replied result ≡ reply (λ p. rowReply p.0 p.1) (answered r) }
+    ensures { replied result ≡ reply (λ p. row_reply p.0 p.1) (answered r) }
 {
     match r {
         Ok((mark, x)) => Answer::Row(mark, x),
