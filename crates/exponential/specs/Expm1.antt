@@ -1,5 +1,5 @@
 -- exp(x) - 1: special values, then the method, each step rounded once.
-use Rattle.std.specs.Prelude.{ℕ, zero, suc, true, false, cond, not, ◌&&◌, ◌||◌, List, [], ◌∷◌, ℤ, pos, negsuc, ◌-ℤ◌, from_bits, int_lt, Float}
+use Rattle.std.specs.Prelude.{ℕ, zero, suc, Bool, true, false, cond, not, ◌&&◌, ◌||◌, List, [], ◌∷◌, ℤ, pos, negsuc, ◌-ℤ◌, from_bits, int_lt, is_nan, Float}
 use Rattle.std.specs.Float.Ieee.{add, sub, mul, div, lt}
 use Rattle.std.specs.Float.{is_sign_negative, Format, nan, inf, fin}
 use Rattle.float.specs.Band.{below_bits}
@@ -32,6 +32,17 @@ double = record {
   overflow = 0x40862e42fefa39ef;
   q = 0xBFA11111111110F4 ∷ 0x3F5A01A019FE5585 ∷ 0xBF14CE199EAADBB7 ∷ 0x3ED0CFCA86E65239 ∷ 0xBE8AFDB76E09C32D ∷ [];
   wide = pos 20;
+}
+
+-- the sizes are 2^-25 and 27 ln 2
+abbrev pub single : Expm1
+single = record {
+  ln2 = Ln2s.single;
+  tiny = 0x33000000;
+  far = 0x4195b844;
+  overflow = 0x42b17217;
+  q = 0xbd088868 ∷ 0x3acf3010 ∷ [];
+  wide = pos 23;
 }
 
 module _ (t : Expm1) where
@@ -93,9 +104,12 @@ module _ (t : Expm1) where
   abbrev pub unit : ℤ → Float
   unit k = scalbn_of F (one F) (pos 0 -ℤ k)
 
-  -- k from 2 to 56
+  -- k from 2 to 56: what is scaled
+  abbrev pub summed : ℤ → Float → Float → Float
+  summed k r e = cond (int_lt k t.wide) (r ⊖ e ⊕ (one F ⊖ unit k)) (r ⊖ (e ⊕ unit k) ⊕ one F)
+
   abbrev pub inner : ℤ → Float → Float → Float
-  inner k r e = scalbn_of F (cond (int_lt k t.wide) (r ⊖ e ⊕ (one F ⊖ unit k)) (r ⊖ (e ⊕ unit k) ⊕ one F)) k
+  inner k r e = scalbn_of F (summed k r e) k
 
   abbrev pub scaled_of : ℤ → Float → Float → Float
   scaled_of k r e =
@@ -103,20 +117,34 @@ module _ (t : Expm1) where
       (cond (equal_z k (pos 1)) (doubled r e)
       (cond (int_lt k (pos 0) || int_lt (pos 56) k) (outer k r e) (inner k r e)))
 
+  -- what the rest r = hi ⊖ lo lost as it was rounded
+  abbrev pub lost_of : Float → Float → Float → Float
+  lost_of hi lo r = hi ⊖ r ⊖ lo
+
   -- from the two parts of the rest
   abbrev pub rebuilt : ℤ → Float → Float → Float
-  rebuilt k hi lo = scaled_of k (hi ⊖ lo) (corrected_of (hi ⊖ lo) (hi ⊖ (hi ⊖ lo) ⊖ lo))
+  rebuilt k hi lo = scaled_of k (hi ⊖ lo) (corrected_of (hi ⊖ lo) (lost_of hi lo (hi ⊖ lo)))
 
   abbrev pub reduced_of : ℤ → Float → Float
   reduced_of k x = cond (equal_z k (pos 0)) (unscaled x) (rebuilt k (high_rest t.ln2 k x) (low_rest t.ln2 k))
 
-  -- ---- bands of a finite x
+  -- ---- bands of a finite x: far below zero, above the threshold of overflow, tiny, the rest
+  abbrev pub sunk : Float → Bool
+  sunk x = not (below_bits F x t.far) && is_sign_negative x
+
+  abbrev pub over : Float → Bool
+  over x = not (below_bits F x t.far) && lt (from_bits F t.overflow) x
+
   abbrev pub bands_of : Float → Float
   bands_of x =
-      cond (not (below_bits F x t.far) && is_sign_negative x) (minus_one F)
-      (cond (not (below_bits F x t.far) && lt (from_bits F t.overflow) x) (infinity F)
+      cond (sunk x) (minus_one F)
+      (cond (over x) (infinity F)
       (cond (below_bits F x t.tiny) x
       (reduced_of (count_of t.ln2 x) x)))
+
+  -- a NaN told from these by a test
+  abbrev pub tests_of : Float → Float
+  tests_of x = cond (is_nan x) x (bands_of x)
 
   -- C11 F.10.3.3: a NaN stays; -infinity gives -1; +infinity stays; a zero stays
   abbrev pub value_of : Float → Float

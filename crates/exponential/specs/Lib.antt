@@ -1,3 +1,4 @@
 pub mod Ln2
 pub mod Expm1
+pub mod Counts
 pub mod Exp

@@ -1,7 +1,7 @@
 -- Reduction by multiples of ln 2: x is a count k of ln 2 and a rest between -ln 2 / 2 and ln 2 / 2.
 use Rattle.std.specs.Prelude.{ℕ, Bool, false, cond, ◌&&◌, T, ℤ, pos, negsuc, from_bits, int_le, Float}
 use Rattle.std.specs.Float.Ieee.{add, sub, mul, le, of_int, to_signed}
-use Rattle.std.specs.Float.{is_sign_negative, float_with_sign, Format, binary64}
+use Rattle.std.specs.Float.{is_sign_negative, float_with_sign, Format, binary32, binary64}
 use Rattle.float.specs.Band.{below_bits}
 use Rattle.float.specs.Constants.{half, minus_half}
 
@@ -29,6 +29,18 @@ double = record {
   once = 0x3fd62e4300000000;
   more = 0x3ff0a2b200000000;
   widest = 0x40874910d52d3051;
+}
+
+-- 0x3eb17218 is the last size with count 0; the widest is the last argument below overflow, 88.72..
+abbrev pub single : Ln2
+single = record {
+  format = binary32;
+  inverse = 0x3fb8aa3b;
+  high = 0x3f317180;
+  low = 0x3717f7d1;
+  once = 0x3eb17219;
+  more = 0x3f851592;
+  widest = 0x42b17217;
 }
 
 abbrev pub equal_z : ℤ → ℤ → Bool

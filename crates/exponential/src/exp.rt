@@ -11,7 +11,7 @@
 ghost use Rattle.std.specs.Prelude.{◌≡◌, not, T, is_nan};
 ghost use Rattle.exponential.specs.Exp.{kernel_of, join_of, scaled_of, reduced_of, bands_of, exp_of};
 
-use self::super::ln2::{count, high_rest, low_rest};
+use crate::ln2::{count, high_rest, low_rest};
 use float::band::below;
 use scaling::scalbn::scalbn;
 
@@ -44,13 +44,13 @@ fn join(x: f64, hi: f64, lo: f64) -> f64
     1.0 + (x * c / (2.0 - c) - lo + hi)
 }
 
-fn scaled(k: i32, hi: f64, lo: f64) -> f64
+fn scaled(k: i16, hi: f64, lo: f64) -> f64
     ensures { result ≡ scaled_of k hi lo }
 {
-    scalbn(join(hi - lo, hi, lo), k)
+    scalbn(join(hi - lo, hi, lo), k as i32)
 }
 
-fn reduced(k: i32, x: f64) -> f64
+fn reduced(k: i16, x: f64) -> f64
     ensures { result ≡ reduced_of k x }
 {
     if k == 0 {

@@ -9,127 +9,182 @@
  * is preserved.
  * ====================================================
  */
-ghost use Rattle.std.specs.Prelude.{◌≡◌, not, T, is_nan};
-ghost use Rattle.exponential.specs.Expm1.{double, square_of, kernel_of, error_of, corrected_of, unscaled, halved, doubled, outer, unit, inner, scaled_of, rebuilt, reduced_of, bands_of, expm1_of};
+ghost use Rattle.std.specs.Prelude.{◌≡◌, not, T, pos, ◌≤ℤ◌, is_nan};
+ghost use Rattle.scaling.specs.Scalbn.{scalbn_of};
+ghost use Rattle.exponential.specs.Expm1.{square_of, error_of, corrected_of, halved, doubled, outer, unit, summed, scaled_of, unscaled, lost_of, rebuilt, reduced_of, sunk, over, bands_of, tests_of, expm1_of};
 
-use self::super::ln2::{count, high_rest, low_rest};
-use float::band::{below, negative};
-use scaling::scalbn::scalbn;
+use crate::ln2::{count, high_rest, low_rest};
+use crate::table::Table;
+use float::band::negative;
 
-const O_THRESHOLD: f64 = f64::from_bits(0x4086_2e42_fefa_39ef);
+const MINUS_ONE: f32 = -1.0;
 
-// Scaled coefficients, for z = r * r / 2.
-const Q: [f64; 5] = [
-    f64::from_bits(0xBFA1_1111_1111_10F4),
-    f64::from_bits(0x3F5A_01A0_19FE_5585),
-    f64::from_bits(0xBF14_CE19_9EAA_DBB7),
-    f64::from_bits(0x3ED0_CFCA_86E6_5239),
-    f64::from_bits(0xBE8A_FDB7_6E09_C32D),
-];
+const MINUS_TWO: f32 = -2.0;
 
-const MINUS_ONE: f64 = -1.0;
+const MINUS_QUARTER: f32 = -0.25;
 
-const MINUS_TWO: f64 = -2.0;
-
-const MINUS_QUARTER: f64 = -0.25;
-
-fn kernel(z: f64) -> f64
-    ensures { result ≡ kernel_of double z }
+fn square<F: Table>(r: F) -> F
+    ensures { F.float result ≡ square_of F.table (F.float r) }
 {
-    1.0 + z * (Q[0] + z * (Q[1] + z * (Q[2] + z * (Q[3] + z * Q[4]))))
+    r * (F::of(0.5) * r)
 }
 
-fn square(r: f64) -> f64
-    ensures { result ≡ square_of double r }
+fn error<F: Table>(r: F) -> F
+    ensures { F.float result ≡ error_of F.table (F.float r) }
 {
-    r * (0.5 * r)
-}
-
-fn error(r: f64) -> f64
-    ensures { result ≡ error_of double r }
-{
-    let hfx = 0.5 * r;
+    let hfx = F::of(0.5) * r;
     let hxs = r * hfx;
-    let r1 = kernel(hxs);
-    let t = 3.0 - r1 * hfx;
-    hxs * ((r1 - t) / (6.0 - r * t))
+    let r1 = F::kernel(hxs);
+    let t = F::of(3.0) - r1 * hfx;
+    hxs * ((r1 - t) / (F::of(6.0) - r * t))
 }
 
-fn corrected(r: f64, c: f64) -> f64
-    ensures { result ≡ corrected_of double r c }
+fn corrected<F: Table>(r: F, c: F) -> F
+    ensures { F.float result ≡ corrected_of F.table (F.float r) (F.float c) }
 {
     r * (error(r) - c) - c - square(r)
 }
 
+// k = 0.
+fn unscaled<F: Table>(r: F) -> F
+    ensures { F.float result ≡ unscaled F.table (F.float r) }
+{
+    r - (r * error(r) - square(r))
+}
+
+// k = -1.
+fn halved<F: Table>(r: F, e: F) -> F
+    ensures { F.float result ≡ halved F.table (F.float r) (F.float e) }
+{
+    F::of(0.5) * (r - e) - F::of(0.5)
+}
+
 // k = 1.
-fn doubled_back(r: f64, e: f64) -> f64
-    ensures { result ≡ doubled double r e }
+fn doubled<F: Table>(r: F, e: F) -> F
+    ensures { F.float result ≡ doubled F.table (F.float r) (F.float e) }
 {
-    if r < MINUS_QUARTER {
-        MINUS_TWO * (e - (r + 0.5))
+    if r < F::of(MINUS_QUARTER) {
+        F::of(MINUS_TWO) * (e - (r + F::of(0.5)))
     } else {
-        1.0 + 2.0 * (r - e)
+        F::of(1.0) + F::of(2.0) * (r - e)
     }
 }
 
-fn scaled(k: i32, r: f64, e: f64) -> f64
-    ensures { result ≡ scaled_of double k r e }
+// 2^k times x, rounded once.
+fn raised<F: Table>(x: F, k: i16) -> F
+    ensures { F.float result ≡ scalbn_of F.table.ln2.format (F.float x) k }
 {
-    if k == -1 {
-        0.5 * (r - e) - 0.5
-    } else if k == 1 {
-        doubled_back(r, e)
-    } else if k < 0 || k > 56 {
-        scalbn(r - e + 1.0, k) - 1.0
-    } else if k < 20 {
-        scalbn(r - e + (1.0 - scalbn(1.0, 0 - k)), k)
+    x.scalbn(k as i32)
+}
+
+// k below 0 or above 56.
+fn outer<F: Table>(k: i16, r: F, e: F) -> F
+    ensures { F.float result ≡ outer F.table k (F.float r) (F.float e) }
+{
+    raised(r - e + F::of(1.0), k) - F::of(1.0)
+}
+
+// 2^-k.
+fn unit<F: Table>(k: i16) -> F
+    requires { pos 0 ≤ℤ k }
+    ensures { F.float result ≡ unit F.table k }
+{
+    raised(F::of(1.0), 0 - k)
+}
+
+// What is scaled for a k from 2 to 56: 1 + r - e less 2^-k, in the order that keeps the digits.
+fn summed<F: Table>(k: i16, r: F, e: F) -> F
+    requires { pos 0 ≤ℤ k }
+    ensures { F.float result ≡ summed F.table k (F.float r) (F.float e) }
+{
+    if F::is_narrow(k) {
+        r - e + (F::of(1.0) - unit(k))
     } else {
-        scalbn(r - (e + scalbn(1.0, 0 - k)) + 1.0, k)
+        r - (e + unit(k)) + F::of(1.0)
     }
 }
 
-fn rebuild(k: i32, hi: f64, lo: f64) -> f64
-    ensures { result ≡ rebuilt double k hi lo }
+fn scaled<F: Table>(k: i16, r: F, e: F) -> F
+    ensures { F.float result ≡ scaled_of F.table k (F.float r) (F.float e) }
 {
-    let r = hi - lo;
-    let c = (hi - r) - lo;
+    match k {
+        -1 => halved(r, e),
+        1 => doubled(r, e),
+        0..=56 => raised(summed(k, r, e), k),
+        _ => outer(k, r, e),
+    }
+}
+
+// What r = hi - lo lost as it was rounded.
+fn lost<F: Table>(hi: F, lo: F, r: F) -> F
+    ensures { F.float result ≡ lost_of F.table (F.float hi) (F.float lo) (F.float r) }
+{
+    (hi - r) - lo
+}
+
+fn join<F: Table>(k: i16, r: F, c: F) -> F
+    ensures { F.float result ≡ scaled_of F.table k (F.float r) (corrected_of F.table (F.float r) (F.float c)) }
+{
     scaled(k, r, corrected(r, c))
 }
 
-fn reduced(k: i32, x: f64) -> f64
-    ensures { result ≡ reduced_of double k x }
+fn rebuild<F: Table>(k: i16, hi: F, lo: F) -> F
+    ensures { F.float result ≡ rebuilt F.table k (F.float hi) (F.float lo) }
+{
+    let r = hi - lo;
+    join(k, r, lost(hi, lo, r))
+}
+
+fn reduced<F: Table>(k: i16, x: F) -> F
+    ensures { F.float result ≡ reduced_of F.table k (F.float x) }
 {
     if k == 0 {
-        x - (x * error(x) - square(x))
+        unscaled(x)
     } else {
         rebuild(k, high_rest(k, x), low_rest(k))
     }
 }
 
-// By bands of |x|, the far ones first.
-fn banded(x: f64) -> f64
-    requires { T (not (is_nan x)) }
-    ensures { result ≡ bands_of double x }
+// Whether x is negative and of a size from 56 ln 2 on, or 27 ln 2 of an f32.
+fn is_sunk<F: Table>(x: F) -> bool
+    ensures { result ≡ sunk F.table (F.float x) }
 {
-    if !below(x, 0x4043_687a) {
-        // |x| is at least 56 ln 2
-        if negative(x) {
-            return MINUS_ONE;
-        }
-        if x > O_THRESHOLD {
-            return f64::INFINITY;
-        }
+    !x.is_below_far() && negative(x)
+}
+
+// Whether x is above the threshold of overflow.
+fn is_over<F: Table>(x: F) -> bool
+    ensures { result ≡ over F.table (F.float x) }
+{
+    !x.is_below_far() && x > F::overflow()
+}
+
+// By bands of |x|, the far ones first; the last but one ends at 2^-54, or 2^-25 of an f32.
+fn banded<F: Table>(x: F) -> F
+    requires { T (not (is_nan (F.float x))) }
+    ensures { F.float result ≡ bands_of F.table (F.float x) }
+{
+    if is_sunk(x) {
+        F::of(MINUS_ONE)
+    } else if is_over(x) {
+        F::of(f32::INFINITY)
+    } else if x.is_tiny() {
+        x
+    } else {
+        reduced(count(x), x)
     }
-    if below(x, 0x3c90_0000) {
-        // |x| is less than 2^-54
-        return x;
-    }
-    reduced(count(x), x)
+}
+
+// exp(x) - 1, accurate for small x too, of either width. A NaN stays.
+pub fn in_bands<F: Table>(x: F) -> F
+    ensures { F.float result ≡ tests_of F.table (F.float x) }
+{
+    if x.is_nan() { x } else { banded(x) }
 }
 
 // exp(x) - 1, accurate for small x too.
 pub fn expm1(x: f64) -> f64
     ensures { result ≡ expm1_of x }
 {
-    if x.is_nan() { x } else { banded(x) }
+    in_bands(x)
 }

@@ -22,3 +22,23 @@ size_of x = to_bits binary32 x % 2 ^ 31
 -- |x| lies below the f32 with the pattern b, for a b that a finite value has
 abbrev pub below_word : Float → ℕ → Bool
 below_word x b = nat_lt b 0x7f800000 && below_bits binary32 x b
+
+-- ---- one text for both formats: by the size word, an f64's high word and an f32's whole pattern, the sign bit cleared
+abbrev pub word_of : Format → Float → ℕ
+word_of binary32 x = size_of x
+word_of binary64 x = high_of x
+
+-- the size word of an infinity: every finite value's lies below
+abbrev pub infinite_word : Format → ℕ
+infinite_word binary32 = 0x7f800000
+infinite_word binary64 = 0x7ff00000
+
+-- the pattern of the first value with a size word
+abbrev pub pattern_of : Format → ℕ → ℕ
+pattern_of binary32 w = w
+pattern_of binary64 w = w * 2 ^ 32
+
+-- |x| lies below the first value with the size word w, for a w that a finite value has
+abbrev pub below_edge : Format → Float → ℕ → Bool
+below_edge binary32 x w = below_word x w
+below_edge binary64 x w = below_high x w

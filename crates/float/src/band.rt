@@ -1,60 +1,38 @@
 ghost use Rattle.std.specs.Prelude.{◌≡◌};
 ghost use Rattle.std.specs.Float as Floats;
-ghost use Rattle.float.specs.Band.{below_high, below_word, high_of, size_of};
+ghost use Rattle.float.specs.Band.{below_edge};
+ghost use Rattle.float.specs.Signs.{half_like, signed_like};
 
-use std::num::{f32_to_bits_with_nan, f32_to_f64_with_nan, f64_to_bits_with_nan};
+use crate::width::Width;
+use num_traits::Float;
 
-// The high word of an infinity: every finite value's lies below.
-const INFINITE: u32 = 0x7ff0_0000;
-
-// The upper 32 bits, with the sign bit cleared.
-fn high_word(x: f64) -> u32
-    ensures { result ≡ high_of x }
+// Whether |x| lies below the first value with the size word w: an f64's high word, an f32's pattern.
+// It is false for a NaN, and for a w that no finite value has.
+pub fn below<F: Width>(x: F, w: u32) -> bool
+    ensures { result ≡ below_edge F.format (F.float x) w }
 {
-    let bits = f64_to_bits_with_nan(x);
-    (bits % 0x8000_0000_0000_0000 >> 32) as u32
-}
-
-// Whether |x| lies below the finite value with the high word h and the low word 0.
-// It is false for a NaN, and for an h that no finite value has.
-pub fn below(x: f64, h: u32) -> bool
-    ensures { result ≡ below_high x h }
-{
-    h < INFINITE && high_word(x) < h
-}
-
-// The pattern of an infinite f32: every finite value's lies below.
-const INFINITE_F32: u32 = 0x7f80_0000;
-
-// The pattern of an f32, with the sign bit cleared.
-fn size_word(x: f32) -> u32
-    ensures { result ≡ size_of x }
-{
-    f32_to_bits_with_nan(x) % 0x8000_0000
-}
-
-// Whether |x| lies below the finite f32 with the pattern b.
-// It is false for a NaN, and for a b that no finite value has.
-pub fn belowf(x: f32, b: u32) -> bool
-    ensures { result ≡ below_word x b }
-{
-    b < INFINITE_F32 && size_word(x) < b
+    w < F::infinite_word() && x.size_word() < w
 }
 
 // The sign: true for -0, false for a NaN.
-pub fn negative(x: f64) -> bool
-    ensures { result ≡ Floats.is_sign_negative x }
+pub fn negative<F: Float>(x: F) -> bool
+    ensures { result ≡ Floats.is_sign_negative (F.float x) }
 {
-    if x.is_nan() {
-        false
-    } else {
-        x.is_sign_negative()
-    }
+    !x.is_nan() && x.is_sign_negative()
 }
 
-// The same of an f32, which is also an f64.
-pub fn negativef(x: f32) -> bool
-    ensures { result ≡ Floats.is_sign_negative x }
+const HALF: [f32; 2] = [0.5, -0.5];
+
+// A half with x's sign.
+pub fn half_like<F: Width>(x: F) -> F
+    ensures { F.float result ≡ half_like F.format (F.float x) }
 {
-    negative(f32_to_f64_with_nan(x))
+    F::of(HALF[negative(x) as usize])
+}
+
+// The value t, with its sign turned where x is negative.
+pub fn signed_like<F: Float>(x: F, t: F) -> F
+    ensures { F.float result ≡ signed_like (F.float x) (F.float t) }
+{
+    if negative(x) { -t } else { t }
 }

@@ -2,3 +2,4 @@
 #![tactic(auto)]
 
 pub mod band;
+pub mod width;

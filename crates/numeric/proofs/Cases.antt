@@ -1,5 +1,5 @@
 -- Two functions agree on every value of a format that is no NaN, where they agree at the infinities, at the zeros and at the rest. Assumes nothing.
-use Rattle.std.proofs.Common.{◌≡◌, ℕ, zero, suc, Bool, true, false, not, T, ℤ, pos, sym, ap, ◌∙◌}
+use Rattle.std.proofs.Common.{◌≡◌, ℕ, zero, suc, Bool, true, false, cond, not, T, ℤ, pos, sym, ap, ◌∙◌}
 use lib.Ieee.{Float, Format, nan, inf, fin, fits, is_nan}
 use Rattle.numeric.proofs.Words.{zero_exponent}
 
@@ -17,3 +17,9 @@ agree f g h a (fin s zero e) p n =
     let z = zero_exponent f s e p in
     ap (λ (d : ℤ). g (fin s 0 d)) z ∙ a.at_zero s ∙ ap (λ (d : ℤ). h (fin s 0 d)) (sym z)
 agree f g h a (fin s (suc m) e) p n = a.elsewhere s m e
+
+-- so a function that keeps a NaN by a test, and is g of every other value, is h
+pub tested : (f : Format) (g h : Float → Float) → Agree g h → h nan ≡ nan → (x : Float) → T (fits f x) → cond (is_nan x) x (g x) ≡ h x
+tested f g h a n nan p = unfold is_nan in sym n
+tested f g h a n (inf s) p = unfold is_nan in agree f g h a (inf s) p (unfold is_nan in tt)
+tested f g h a n (fin s m e) p = unfold is_nan in agree f g h a (fin s m e) p (unfold is_nan in tt)

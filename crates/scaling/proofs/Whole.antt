@@ -1,5 +1,5 @@
 -- The steps of `scalbn`, by the number that they end at. Assumes nothing.
-use Rattle.std.proofs.Common.{◌≡◌, ℕ, zero, suc, ◌+◌, ◌-◌, ◌*◌, ◌<◌, ◌≤◌, false, T, ℤ, pos, negsuc, ◌+ℤ◌, ◌-ℤ◌, ◌≤ℤ◌, sym, refl, ap, ◌∙◌, subst, suc-le-suc, le_trans, arith}
+use Rattle.std.proofs.Common.{◌≡◌, ℕ, zero, suc, ◌+◌, ◌-◌, ◌*◌, ◌<◌, ◌≤◌, false, T, ℤ, pos, negsuc, ◌+ℤ◌, ◌-ℤ◌, ◌≤ℤ◌, sym, refl, ap, ◌∙◌, subst, suc-le-suc, le_trans, arith, lit≤}
 use lib.Ieee.{Float, Format, nan, inf, fin, prec, emax, low, up, down, fits, mul, neg, is_nan}
 use lib.Ieee.Fits.{round-fits, nan-fits, inf-fits, down_pos}
 use Rattle.std.proofs.lemmas.Int.{ints}
@@ -117,3 +117,48 @@ module _ (f : Format) (x : Float) (ok : T (fits f x)) where
     where
       under : (t n : ℕ) → negsuc n ≤ℤ negsuc t → t ≤ n
       under t n h = omega (arith, ints)
+
+-- ---- the steps by their own numbers: up by 2 ^ emax, down by what the least normal exponent and the digits make
+spans : (f : Format) → (suc (emax f - 2 - prec f) + prec f ≡ emax f - 1) × (low f + suc (emax f) ≤ emax f + emax f + emax f) × (prec f ≤ emax f - 2) × (low f + suc (emax f) ≤ suc (emax f - 2 - prec f) + suc (emax f - 2 - prec f) + (emax f - 2))
+spans lib.Ieee.binary32 = (refl, lit≤ tt, lit≤ tt, lit≤ tt)
+spans lib.Ieee.binary64 = (refl, lit≤ tt, lit≤ tt, lit≤ tt)
+
+module _ (f : Format) (x : Float) (ok : T (fits f x)) where
+  abbrev sf : Float → ℤ → Float
+  sf = scalbn_of f
+
+  pub up_once : (e n : ℤ) → e ≡ pos (emax f) → e ≤ℤ n → sf (sf x e) (n -ℤ e) ≡ sf x n
+  up_once e n h k = subst (λ (z : ℤ). sf (sf x z) (n -ℤ z) ≡ sf x n) (sym h) (raised_once f x ok (emax f) n (subst (λ (z : ℤ). z ≤ℤ n) h k))
+
+  pub up_again : (e n : ℤ) → e ≡ pos (emax f) → e ≤ℤ (n -ℤ e) → sf (sf (sf x e) e) (n -ℤ e -ℤ e) ≡ sf x n
+  up_again e n h k = subst (λ (z : ℤ). sf (sf (sf x z) z) (n -ℤ z -ℤ z) ≡ sf x n) (sym h) (plain (emax f) n (subst (λ (z : ℤ). z ≤ℤ (n -ℤ z)) h k))
+    where
+      plain : (u : ℕ) (n : ℤ) → pos u ≤ℤ (n -ℤ pos u) → sf (sf (sf x (pos u)) (pos u)) (n -ℤ pos u -ℤ pos u) ≡ sf x n
+      plain u n g = (let e : n -ℤ pos u -ℤ pos u ≡ n -ℤ pos (u + u) = omega (arith, ints) in ap (sf (sf (sf x (pos u)) (pos u))) e ∙ raised_twice f x ok u n (omega (arith, ints)))
+
+  pub up_out : (e n : ℤ) → e ≡ pos (emax f) → e ≤ℤ (n -ℤ e -ℤ e) → sf (sf (sf x e) e) e ≡ sf x n
+  up_out e n h k = subst (λ (z : ℤ). sf (sf (sf x z) z) z ≡ sf x n) (sym h) (plain (emax f) n (spans f).1 (subst (λ (z : ℤ). z ≤ℤ (n -ℤ z -ℤ z)) h k))
+    where
+      plain : (u : ℕ) (n : ℤ) → low f + suc (emax f) ≤ u + u + u → pos u ≤ℤ (n -ℤ pos u -ℤ pos u) → sf (sf (sf x (pos u)) (pos u)) (pos u) ≡ sf x n
+      plain u n b g = raised_out f x ok u n b (omega (arith, ints))
+
+  pub down_once : (e n : ℤ) → e ≡ negsuc (emax f - 2 - prec f) → n ≤ℤ negsuc (emax f - 1) → sf (sf x e) (n -ℤ e) ≡ sf x n
+  down_once e n h k = subst (λ (z : ℤ). sf (sf x z) (n -ℤ z) ≡ sf x n) (sym h) (plain (emax f - 2 - prec f) n (subst (λ (z : ℕ). n ≤ℤ negsuc z) (sym (spans f).0) k))
+    where
+      plain : (d : ℕ) (n : ℤ) → n ≤ℤ negsuc (suc d + prec f) → sf (sf x (negsuc d)) (n -ℤ negsuc d) ≡ sf x n
+      plain d n g = (let e : n -ℤ negsuc d ≡ n +ℤ pos (suc d) = omega (arith, ints) in ap (sf (sf x (negsuc d))) e ∙ lowered_once f x ok d n g)
+
+  pub down_again : (e n : ℤ) → e ≡ negsuc (emax f - 2 - prec f) → (n -ℤ e) ≤ℤ negsuc (emax f - 1) → sf (sf (sf x e) e) (n -ℤ e -ℤ e) ≡ sf x n
+  down_again e n h k = subst (λ (z : ℤ). sf (sf (sf x z) z) (n -ℤ z -ℤ z) ≡ sf x n) (sym h) (plain (emax f - 2 - prec f) n (subst (λ (z : ℤ). (n -ℤ z) ≤ℤ negsuc (suc (emax f - 2 - prec f) + prec f)) h (subst (λ (z : ℕ). (n -ℤ e) ≤ℤ negsuc z) (sym (spans f).0) k)))
+    where
+      plain : (d : ℕ) (n : ℤ) → (n -ℤ negsuc d) ≤ℤ negsuc (suc d + prec f) → sf (sf (sf x (negsuc d)) (negsuc d)) (n -ℤ negsuc d -ℤ negsuc d) ≡ sf x n
+      plain d n g = (let e : n -ℤ negsuc d -ℤ negsuc d ≡ n +ℤ pos (suc d + suc d) = omega (arith, ints) in ap (sf (sf (sf x (negsuc d)) (negsuc d))) e ∙ lowered_twice f x ok d n (omega (arith, ints)))
+
+  pub down_out : (e l n : ℤ) → e ≡ negsuc (emax f - 2 - prec f) → l ≡ negsuc (emax f - 2) → (n -ℤ e -ℤ e) ≤ℤ l → sf (sf (sf x e) e) l ≡ sf x n
+  down_out e l n h j k =
+      subst (λ (z : ℤ). sf (sf (sf x z) z) l ≡ sf x n) (sym h)
+      (subst (λ (y : ℤ). sf (sf (sf x (negsuc (emax f - 2 - prec f))) (negsuc (emax f - 2 - prec f))) y ≡ sf x n) (sym j)
+      (plain (emax f - 2 - prec f) (emax f - 2) n (spans f).2 (spans f).3 (subst (λ (z : ℤ). (n -ℤ z -ℤ z) ≤ℤ negsuc (emax f - 2)) h (subst (λ (y : ℤ). (n -ℤ e -ℤ e) ≤ℤ y) j k))))
+    where
+      plain : (d b : ℕ) (n : ℤ) → prec f ≤ b → low f + suc (emax f) ≤ suc d + suc d + b → (n -ℤ negsuc d -ℤ negsuc d) ≤ℤ negsuc b → sf (sf (sf x (negsuc d)) (negsuc d)) (negsuc b) ≡ sf x n
+      plain d b n p o g = lowered_out f x ok d b n p o (omega (arith, ints))

@@ -1,4 +1,4 @@
-use Rattle.std.proofs.Common.{◌≡◌, true, false, sym, refl, ◌∙◌, true≢false}
+use Rattle.std.proofs.Common.{◌≡◌, true, false, not, sym, refl, ap, ◌∙◌, true≢false}
 use lib.Ieee.{Float, nan, inf, fin, is_nan}
 use Rattle.std.specs.Float.{is_sign_negative}
 use Rattle.float.proofs.band.negative.Goals as goal
@@ -9,5 +9,5 @@ no_sign nan h = refl
 no_sign (inf s) h = absurd (true≢false (sym h))
 no_sign (fin s m e) h = absurd (true≢false (sym h))
 
-pub returns-then-is_nan : goal.returns-then-is_nan
-returns-then-is_nan c = no_sign c.args.x (sym c.is_nan.ensures.value ∙ c.if-is_nan.true)
+pub returns-else-not-is_nan : goal.returns-else-not-is_nan
+returns-else-not-is_nan g c = ap not c.if-not-is_nan.false ∙ no_sign (g.F.Float.float c.args.x) (sym c.is_nan.ensures ∙ c.if-not-is_nan.false)

@@ -1,7 +1,0 @@
-use Rattle.std.proofs.Common.{◌∙◌, rules}
-use lib.Ieee.{binary64}
-use Rattle.scaling.proofs.Powers.{power_is}
-use Rattle.scaling.proofs.scalbn.power.Goals as goal
-
-pub returns : goal.returns
-returns c = search rules ∙ power_is binary64 c.args.n c.requires.0 c.requires.1
