@@ -36,17 +36,17 @@ module _ (c : Ln2) where
   F = c.format
 
   -- what the fraction is dropped from, where h is the half with x's sign
-  abbrev in_ln2s : Float → Float → Float
+  abbrev pub in_ln2s : Float → Float → Float
   in_ln2s x h = add F (mul F (of_bits F c.inverse) x) h
 
   -- the same as code, and the ends of x and h
-  abbrev steps : Code
+  abbrev pub steps : Code
   steps = plus (times (lit (of_bits F c.inverse)) (at 0)) (at 1)
 
-  abbrev ends : List Itv
+  abbrev pub ends : List Itv
   ends = mk (neg (widest_of c)) (widest_of c) ∷ mk (minus_half F) (half F) ∷ []
 
-  half_in : (x : Float) → In (half_like c x) (mk (minus_half F) (half F))
+  pub half_in : (x : Float) → In (half_like c x) (mk (minus_half F) (half F))
   half_in x = by_cases (λ (h : Float). In h (mk (minus_half F) (half F))) (is_sign_negative x) (minus_half F) (half F) (λ _. ((halves F).0, (halves F).1)) (λ _. ((halves F).1, (halves F).2))
 
 -- between these ends it is at most n in size: to be computed of a table

@@ -1,4 +1,4 @@
-use float::band::{belowf, negativef};
+use float::band::{below, negative};
 use scaling::scalbnf::scalbnf;
 use single::expm1f::expm1f;
 use single::log1pf::log1pf;
@@ -75,10 +75,10 @@ fn scalbnf_rounds_once(rt: HostRuntime) {
 
 #[test]
 fn bands_of_f32(rt: HostRuntime) {
-    assert_eq!(rt; belowf(float(0xbeb1_7218), 0x3eb1_7219), true);
-    assert_eq!(rt; belowf(float(0x3eb1_7219), 0x3eb1_7219), false);
-    assert_eq!(rt; belowf(float(0x7fc0_0000), 0x7f7f_ffff), false);
-    assert_eq!(rt; belowf(1.0, 0x7f80_0000), false);
-    assert_eq!(rt; negativef(float(0x8000_0000)), true);
-    assert_eq!(rt; negativef(float(0xffc0_0000)), false);
+    assert_eq!(rt; below(float(0xbeb1_7218), 0x3eb1_7219), true);
+    assert_eq!(rt; below(float(0x3eb1_7219), 0x3eb1_7219), false);
+    assert_eq!(rt; below(float(0x7fc0_0000), 0x7f7f_ffff), false);
+    assert_eq!(rt; below(1.0f32, 0x7f80_0000), false);
+    assert_eq!(rt; negative(float(0x8000_0000)), true);
+    assert_eq!(rt; negative(float(0xffc0_0000)), false);
 }

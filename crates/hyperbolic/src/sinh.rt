@@ -1,19 +1,10 @@
 ghost use Rattle.std.specs.Prelude.{◌≡◌};
 ghost use Rattle.float.specs.Odd.{Odd};
-ghost use Rattle.hyperbolic.specs.Sinh.{half_like, near_of, mid_of, bands_of, sinh_of};
+ghost use Rattle.hyperbolic.specs.Sinh.{near_of, mid_of, bands_of, sinh_of};
 
 use self::super::expo2::expo2;
 use exponential::expm1::expm1;
-use float::band::{below, negative};
-
-const HALF: [f64; 2] = [0.5, -0.5];
-
-// A half with x's sign.
-fn half_like(x: f64) -> f64
-    ensures { result ≡ half_like x }
-{
-    HALF[negative(x) as usize]
-}
+use float::band::{below, half_like};
 
 // 2 sinh of a size below 1, from its expm1.
 fn near(t: f64) -> f64

@@ -3,7 +3,7 @@ ghost use Rattle.float.specs.Odd.{Odd};
 ghost use Rattle.hyperbolic.specs.Tanh.{small_of, mid_of, large_of, size_of, bands_of, tanh_of};
 
 use exponential::expm1::expm1;
-use float::band::{below, negative};
+use float::band::{below, signed_like};
 
 const MINUS_TWO: f64 = -2.0;
 
@@ -52,8 +52,7 @@ fn size(y: f64) -> f64
 fn banded(x: f64) -> f64
     ensures { result ≡ bands_of x }
 {
-    let t = size(x.abs());
-    if negative(x) { -t } else { t }
+    signed_like(x, size(x.abs()))
 }
 
 // The hyperbolic tangent of x.

@@ -2,7 +2,7 @@ ghost use Rattle.std.specs.Prelude.{◌≡◌};
 ghost use Rattle.float.specs.Odd.{Odd};
 ghost use Rattle.inverse.specs.Asinh.{root_of, small_of, mid_of, large_of, size_of, bands_of, asinh_of};
 
-use float::band::{below, negative};
+use float::band::{below, signed_like};
 use logarithm::log::log;
 use logarithm::log1p::log1p;
 use root::sqrt::sqrt;
@@ -48,8 +48,7 @@ fn size(y: f64) -> f64
 fn banded(x: f64) -> f64
     ensures { result ≡ bands_of x }
 {
-    let t = size(x.abs());
-    if negative(x) { -t } else { t }
+    signed_like(x, size(x.abs()))
 }
 
 // The inverse hyperbolic sine of x.

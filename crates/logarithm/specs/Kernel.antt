@@ -1,6 +1,6 @@
 -- The logarithm of 2^k (1 + f), for 1 + f between √½ and √2; and how a value is cut into such a k and f. Each step is rounded once.
 use Rattle.std.specs.Prelude.{ℕ, ◌+◌, ◌/◌, ◌%◌, List, [], ◌∷◌, ℤ, pos, ◌-ℤ◌, from_bits, Float}
-use Rattle.std.specs.Float.{Format, binary64}
+use Rattle.std.specs.Float.{Format, binary32, binary64}
 use Rattle.std.specs.Float.Ieee.{emax, hid, top, add, sub, mul, div, of_int}
 use Rattle.float.specs.Constants.{two, half}
 use Rattle.float.specs.Polynomial.{horner}
@@ -29,6 +29,18 @@ double = record {
   even = 0x3FD999999997FA04 ∷ 0x3FCC71C51D8E78AF ∷ 0x3FC39A09D078C69F ∷ [];
   bottom = 0x3fe6a09e00000000;
   below = 0x00095f6200000000;
+}
+
+-- 0x3f3504f3 is near √½, and 0x3f800000 is 1
+abbrev pub single : Logarithm
+single = record {
+  format = binary32;
+  ln2_hi = 0x3f317180;
+  ln2_lo = 0x3717f7d1;
+  odd = 0x3f2aaaaa ∷ 0x3e91e9ee ∷ [];
+  even = 0x3eccce13 ∷ 0x3e789e26 ∷ [];
+  bottom = 0x3f3504f3;
+  below = 0x004afb0d;
 }
 
 module _ (t : Logarithm) where

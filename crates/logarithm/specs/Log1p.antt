@@ -1,5 +1,5 @@
 -- log(1 + x): special values, then the method, each step rounded once.
-use Rattle.std.specs.Prelude.{ℕ, zero, suc, Bool, true, false, cond, ℤ, pos, int_le, int_lt, to_bits, Float}
+use Rattle.std.specs.Prelude.{ℕ, zero, suc, Bool, true, false, cond, ℤ, pos, int_le, int_lt, is_nan, to_bits, Float}
 use Rattle.std.specs.Float.Ieee.{add, sub, div, lt, eq}
 use Rattle.std.specs.Float.{is_sign_negative, Format, nan, inf, fin}
 use Rattle.float.specs.Band.{below_bits}
@@ -26,6 +26,16 @@ double = record {
   near = 0x3fd2bec500000000;
   near_up = 0x3fda827a00000000;
   exact = pos 54;
+}
+
+-- 2^-24; 0x3e95f619 is the last near size below zero
+abbrev pub single : Log1p
+single = record {
+  log = Kernel.single;
+  tiny = 0x33800000;
+  near = 0x3e95f61a;
+  near_up = 0x3ed413d0;
+  exact = pos 25;
 }
 
 module _ (t : Log1p) where
@@ -63,6 +73,10 @@ module _ (t : Log1p) where
   -- +infinity told from these, by a test on an x that is no NaN
   abbrev pub tests_of : Float → Float
   tests_of x = cond (eq x (infinity F)) x (bands_of x)
+
+  -- and a NaN told from these
+  abbrev pub number_tests_of : Float → Float
+  number_tests_of x = cond (is_nan x) x (tests_of x)
 
   -- C11 F.10.3.9: a NaN stays; below -1 NaN; -1 gives -infinity; a zero stays; +infinity stays
   abbrev pub value_of : Float → Float

@@ -9,29 +9,30 @@
  * is preserved.
  * ====================================================
  */
-ghost use Rattle.std.specs.Prelude.{◌≡◌, pos, negsuc, ◌≤ℤ◌};
+ghost use Rattle.std.specs.Prelude.{◌≡◌, pos, negsuc, ◌≤ℤ◌, to_bits};
+ghost use Rattle.std.specs.Float.{binary64};
 ghost use Rattle.logarithm.specs.Log.{sum_of, cut_of, bands_of, tests_of, log_of};
 
-use self::super::kernel::{exponent, high_part, low_part, significand, sum};
+use crate::kernel::{high_part, low_part, sum};
+use crate::table::Table;
 use float::band::{below, negative};
-use std::num::f64_to_bits_with_nan;
 
 const TWO_54: f64 = f64::from_bits(0x4350_0000_0000_0000);
 
 const MINUS_INFINITY: f64 = f64::from_bits(0xfff0_0000_0000_0000);
 
-fn at_exponent(k: i32, f: f64) -> f64
+fn at_exponent(k: i16, f: f64) -> f64
     ensures { result ≡ sum_of k f }
 {
     sum(f, low_part(k), high_part(k))
 }
 
-// The logarithm of 2^k times the value whose pattern is b.
-fn cut(k: i32, b: u64) -> f64
+// The logarithm of 2^k times x.
+fn cut(k: i16, x: f64) -> f64
     requires { (negsuc 53 ≤ℤ k) × (k ≤ℤ pos 0) }
-    ensures { result ≡ cut_of k b }
+    ensures { result ≡ cut_of k (to_bits binary64 x) }
 {
-    at_exponent(k + exponent(b), significand(b) - 1.0)
+    at_exponent(k + x.exponent(), x.significand() - 1.0)
 }
 
 // For a finite x above zero.
@@ -42,9 +43,9 @@ fn banded(x: f64) -> f64
         0.0
     } else if below(x, 0x0010_0000) {
         // a subnormal number, scaled up
-        cut(-54, f64_to_bits_with_nan(x * TWO_54))
+        cut(-54, x * TWO_54)
     } else {
-        cut(0, f64_to_bits_with_nan(x))
+        cut(0, x)
     }
 }
 

@@ -9,87 +9,96 @@
  * is preserved.
  * ====================================================
  */
-ghost use Rattle.std.specs.Prelude.{◌≡◌};
-ghost use Rattle.std.specs.Float.{binary64};
-ghost use Rattle.logarithm.specs.Log1p.{double, lost_of, correction_of, sum_of, cut_of, near_of, bands_of, tests_of, log1p_of};
+ghost use Rattle.std.specs.Prelude.{◌≡◌, to_bits};
+ghost use Rattle.logarithm.specs.Log1p.{lost_of, correction_of, sum_of, cut_of, near_of, bands_of, tests_of, number_tests_of, log1p_of};
 
-use self::super::kernel::{exponent, high_part, low_part, significand, sum};
-use float::band::{below, negative};
-use std::num::f64_to_bits_with_nan;
+use crate::kernel::{high_part, low_part, sum};
+use crate::table::Table;
+use float::band::negative;
 
-const MINUS_ONE: f64 = -1.0;
-
-const MINUS_INFINITY: f64 = f64::from_bits(0xfff0_0000_0000_0000);
+const MINUS_ONE: f32 = -1.0;
 
 // What 1 + x lost when it was rounded to u.
-fn lost(k: i32, x: f64, u: f64) -> f64
-    ensures { result ≡ lost_of double k x u }
+fn lost<F: Table>(k: i16, x: F, u: F) -> F
+    ensures { F.float result ≡ lost_of F.table k (F.float x) (F.float u) }
 {
-    if k >= 2 { 1.0 - (u - x) } else { x - (u - 1.0) }
+    if k >= 2 {
+        F::of(1.0) - (u - x)
+    } else {
+        x - (u - F::of(1.0))
+    }
 }
 
 // log(1 + x) - log(u), about; c / u is not to underflow.
-fn correction(k: i32, x: f64, u: f64) -> f64
-    ensures { result ≡ correction_of double k x u }
+fn correction<F: Table>(k: i16, x: F, u: F) -> F
+    ensures { F.float result ≡ correction_of F.table k (F.float x) (F.float u) }
 {
-    if k < 54 { lost(k, x, u) / u } else { 0.0 }
+    if F::is_corrected(k) {
+        lost(k, x, u) / u
+    } else {
+        F::of(0.0)
+    }
 }
 
-fn corrected_sum(k: i32, f: f64, c: f64) -> f64
-    ensures { result ≡ sum_of double k f c }
+// log of 2^k (1 + f), with the correction c.
+fn corrected_sum<F: Table>(k: i16, f: F, c: F) -> F
+    ensures { F.float result ≡ sum_of F.table k (F.float f) (F.float c) }
 {
-    sum(f, low_part(k) + c, high_part(k))
+    sum(f, low_part::<F>(k) + c, high_part(k))
 }
 
-// log(1 + x), where u is 1 + x and b its pattern.
-fn cut(x: f64, u: f64, b: u64) -> f64
-    ensures { result ≡ cut_of double x u b }
+// log(1 + x), where u is 1 + x.
+fn cut<F: Table>(x: F, u: F) -> F
+    ensures { F.float result ≡ cut_of F.table (F.float x) (F.float u) (to_bits F.table.log.format (F.float u)) }
 {
-    let k = exponent(b);
-    corrected_sum(k, significand(b) - 1.0, correction(k, x, u))
+    let k = u.exponent();
+    corrected_sum(k, u.significand() - F::of(1.0), correction(k, x, u))
 }
 
 // Whether 1 + x lies between about √½ and √2.
-fn near(x: f64) -> bool
-    ensures { result ≡ near_of double x }
+fn near<F: Table>(x: F) -> bool
+    ensures { result ≡ near_of F.table (F.float x) }
 {
     if negative(x) {
-        below(x, 0x3fd2_bec5)
+        x.is_near_below()
     } else {
-        below(x, 0x3fda_827a)
+        x.is_near_above()
     }
 }
 
-// For a finite x.
-fn banded(x: f64) -> f64
-    ensures { result ≡ bands_of double x }
+// For a finite x; the tiny ones end at 2^-53, or 2^-24 of an f32.
+fn banded<F: Table>(x: F) -> F
+    ensures { F.float result ≡ bands_of F.table (F.float x) }
 {
-    if x < MINUS_ONE {
-        return f64::NAN;
+    if x < F::of(MINUS_ONE) {
+        F::of(f32::NAN)
+    } else if x == F::of(MINUS_ONE) {
+        F::of(f32::NEG_INFINITY)
+    } else if x.is_tiny() {
+        x
+    } else if near(x) {
+        corrected_sum(0, x, F::of(0.0))
+    } else {
+        cut(x, F::of(1.0) + x)
     }
-    if x == MINUS_ONE {
-        return MINUS_INFINITY;
-    }
-    if below(x, 0x3ca0_0000) {
-        // |x| is less than 2^-53
-        return x;
-    }
-    if near(x) {
-        return corrected_sum(0, x, 0.0);
-    }
-    let u = 1.0 + x;
-    cut(x, u, f64_to_bits_with_nan(u))
 }
 
-fn tested(x: f64) -> f64
-    ensures { result ≡ tests_of double x }
+fn tested<F: Table>(x: F) -> F
+    ensures { F.float result ≡ tests_of F.table (F.float x) }
 {
-    if x == f64::INFINITY { x } else { banded(x) }
+    if x == F::of(f32::INFINITY) { x } else { banded(x) }
+}
+
+// The natural logarithm of 1 + x, accurate for small x too, of either width. A NaN stays.
+pub fn in_bands<F: Table>(x: F) -> F
+    ensures { F.float result ≡ number_tests_of F.table (F.float x) }
+{
+    if x.is_nan() { x } else { tested(x) }
 }
 
 // The natural logarithm of 1 + x, accurate for small x too.
 pub fn log1p(x: f64) -> f64
     ensures { result ≡ log1p_of x }
 {
-    if x.is_nan() { x } else { tested(x) }
+    in_bands(x)
 }

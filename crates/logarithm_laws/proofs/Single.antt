@@ -1,6 +1,7 @@
 -- The laws of log1pf: the table of f32 is of the right size. Assumes nothing.
 use lib.Ieee.{of_bits, round, neg, add, sub, mul, div, le, is_nan}
-use Rattle.single.specs.Log1pf.{single, log1pf_of}
+use Rattle.logarithm.specs.Log1p.{single}
+use Rattle.single.specs.Log1pf.{log1pf_of}
 use Rattle.logarithm_laws.specs.Laws.{Log1pfNumber, Log1pfBounded}
 use Rattle.logarithm_laws.proofs.Log1p.{Sizes, value_number, value_in}
 

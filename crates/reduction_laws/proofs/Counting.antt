@@ -19,7 +19,7 @@ use Rattle.numeric.proofs.Words.{mag, mag_in, side_plain, side_turned, not_below
 use Rattle.float.specs.Band.{below_bits}
 use Rattle.float.specs.Constants.{half, minus_half}
 use Rattle.exponential.specs.Ln2.{Ln2, half_like, whole_of, count_of, high_rest, low_rest, widest_of, Reducible}
-use Rattle.exponential.proofs.Reach.{in_ln2s, steps, ends, half_in}
+use Rattle.exponential.specs.Counts.{in_ln2s, steps, ends, half_in}
 
 abbrev one_f : Float
 one_f = fin false 1 (pos 0)

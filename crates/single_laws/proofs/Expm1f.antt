@@ -4,7 +4,8 @@ use lib.Dec.{T}
 use lib.Ieee.{Float, binary32, neg, le, of_bits}
 use Rattle.numeric.proofs.Order.{zero_f, number_above}
 use Rattle.float.specs.Constants.{one, plus_zero, minus_one}
-use Rattle.single.specs.Expm1f.{single, expm1f_of}
+use Rattle.exponential.specs.Expm1.{single}
+use Rattle.single.specs.Expm1f.{expm1f_of}
 use Rattle.exponential_laws.proofs.Range.{above, rises}
 use Rattle.single_laws.specs.Laws.{Expm1fAbove, Expm1fRises}
 use Rattle.single_laws.proofs.Single.{sizes, computed}

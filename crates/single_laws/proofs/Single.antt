@@ -7,7 +7,9 @@ use lib.IntN.{negsuc}
 use lib.Dec.{lit<, lit≤}
 use lib.Ieee.{binary32, fin, round, neg, add, sub, mul, div, le, is_nan, of_bits, of_int}
 use Rattle.numeric.proofs.Split.{Sizes, Sound}
-use Rattle.single.specs.Expm1f.{ln2, single, expm1f_of}
+use Rattle.exponential.specs.Expm1.{single}
+use Rattle.exponential.specs.Ln2 as Ln2s
+use Rattle.single.specs.Expm1f.{expm1f_of}
 use Rattle.single.proofs.Special.{expm1f_bands}
 use Rattle.reduction_laws.proofs.Counting.{Table}
 use Rattle.exponential_laws.proofs.Kernel.{Kernel}
@@ -42,7 +44,7 @@ sizes_sound = record {
   step = tt;
 }
 
-table : Table ln2 sizes 128
+table : Table Ln2s.single sizes 128
 unfolding add sub mul neg le of_bits round of_int
 table = record {
   sound = sizes_sound;
