@@ -30,12 +30,9 @@ pub(crate) fn number(digits: &[u8]) -> Option<u64>
     ensures value { result ≡ (if all_digits digits.now then Some (spelled digits.now) else None) }
     ensures bound { elim result [ Some n ↦ n < 16 ^ length digits.now | None ↦ Unit {0} ] }
 {
-    let mut n = 0u64;
+    let mut n = 0;
     for byte in digits {
-        match digit(*byte) {
-            Some(d) => n = with_digit(n, d),
-            None => return None,
-        }
+        n = with_digit(n, digit(*byte)?);
     }
     Some(n)
 }

@@ -7,25 +7,23 @@ use Rattle.lines.proofs.digits.number.Goals as goal
 pub with_digit-n-requires : goal.with_digit-n-requires
 with_digit-n-requires c =
     fits_digits _ (c.loop-byte.byte-index + 1)
-    (below_more _ _ _ _ c.loop-byte.invariant.0 c.in-Some.ensures.1.1 refl)
+    (below_more _ _ _ _ c.loop-byte.invariant.0 c.in_ok-digit.ensures.1.1 refl)
     (omega (arith, c.loop-byte-test.true, c.requires))
 
 pub loop-byte-preserved : goal.loop-byte-preserved
 loop-byte-preserved c = (
-  below_more _ _ _ _ c.loop-byte.invariant.0 c.in-Some.ensures.1.1 c.with_digit-n.ensures,
+  below_more _ _ _ _ c.loop-byte.invariant.0 c.in_ok-digit.ensures.1.1 c.with_digit-n.ensures,
   (
-    spell_more _ _ _ _ c.loop-byte-test.true _ _ c.in-Some.ensures.1.0 c.with_digit-n.ensures c.loop-byte.invariant.1.0,
-    all_more _ true _ _ c.loop-byte-test.true c.in-Some.ensures.0 c.loop-byte.invariant.1.1,
+    spell_more _ _ _ _ c.loop-byte-test.true _ _ c.in_ok-digit.ensures.1.0 c.with_digit-n.ensures c.loop-byte.invariant.1.0,
+    all_more _ true _ _ c.loop-byte-test.true c.in_ok-digit.ensures.0 c.loop-byte.invariant.1.1,
   ),
 )
 
-pub returns-in-None : goal.returns-in-None
-returns-in-None c = record {
-  value =
-      ap (λ t. cond t (Some (spelled c.args.digits.now)) None)
-      (all_more _ false _ _ c.loop-byte-test.true c.in-None.ensures c.loop-byte.invariant.1.1);
-  bound = tt;
-}
+pub returns-in_err-digit-clause-value : goal.returns-in_err-digit-clause-value
+returns-in_err-digit-clause-value c =
+    rw c.from_residual.ensures
+    (ap (λ t. cond t (Some (spelled c.args.digits.now)) None)
+    (all_more _ false _ _ c.loop-byte-test.true c.in_err-digit.ensures c.loop-byte.invariant.1.1))
 
 pub returns : goal.returns
 returns c =
