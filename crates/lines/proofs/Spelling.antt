@@ -2,7 +2,7 @@
 use Rattle.std.proofs.Common.{◌≡◌, ℕ, zero, suc, ◌+◌, ◌*◌, ◌/◌, ◌%◌, ◌^◌, ◌<◌, ◌≤◌, Bool, true, ◌&&◌, List, [], ◌∷◌, ◌++◌, length, get_or, take, drop, sym, refl, ap, ◌∙◌, add_assoc, mod-lt, mod-eq_of_lt, mul_assoc, mul_comm, add-mul, pow-suc, add-one, arith, lit<, pow-add}
 use native.Mathlib.Nat.{pow-le-pow_right, mod-one, one-le-pow}
 use lib.Arith.{mod-mul}
-use Rattle.std.proofs.lemmas.List.{at_drop_more, at_drop_all, take_all, length-append, length_push, append_assoc}
+use Rattle.std.proofs.lemmas.List.{at_drop_more, take_all, length-append, length_push, append_assoc}
 use Rattle.std.proofs.lemmas.Bool.{and_from}
 use Rattle.std.proofs.lemmas.Bool.Decides.{nat_tests}
 use Rattle.lines.specs.Digits.{is_digit, digit_of, all_digits, spelled, byte_of, written}
@@ -70,14 +70,6 @@ write_more place next places n byte held e few eb inv =
     ∙ (append_assoc held (byte ∷ []) (written next n)
     ∙ (ap (λ b. held ++ b ∷ written next n) eb
     ∙ (sym (ap (λ k. held ++ written k n) e) ∙ inv)))
-
--- all digits are read
-pub spell_end : (n i : ℕ) (digits : List ℕ) → length digits ≤ i
-    → n ≡ n * 16 ^ length (drop i digits) + spelled (drop i digits)
-spell_end n i digits h =
-    let all : n * 16 ^ length (drop i digits) + spelled (drop i digits) ≡ n * 1 + 0 =
-    at_drop_all (λ l. n * 16 ^ length l + spelled l) digits i h in
-    omega (arith, all)
 
 -- what is written are digits, and read back they are the number
 module _ (d : ℕ) (small : d < 16) where

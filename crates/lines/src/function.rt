@@ -42,7 +42,7 @@ fn at_f32<F: FnOnce(f32) -> f32>(function: F, bits: u64) -> u64
 }
 
 // A function that a line can ask for.
-#[derive(Clone, Copy)]
+#[derive(Clone, Copy, PartialEq, Eq, Debug)]
 pub enum Function {
     Expm1,
     Log1p,

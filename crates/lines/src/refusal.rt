@@ -6,7 +6,7 @@ ghost use Rattle.lines.specs.Refusals.{told, refusal_text};
 use crate::short::{Reply, ShortBytes};
 use refusals::Numbered;
 
-#[derive(Clone, Copy, Debug, PartialEq, Eq)]
+#[derive(Clone, Copy, PartialEq, Eq, Debug)]
 pub enum Refusal {
     // The line is no function's name, one space and as many digits as it takes.
     Malformed,
