@@ -1,5 +1,5 @@
 -- The law of a reply.
-use Rattle.std.proofs.Common.{◌≡◌, ℕ, ◌≤◌, Bool, true, false, cond, eqb, leb, List, [], ◌∷◌, ◌++◌, length, Ok, Err, Result, refl, ap, ◌∙◌, subst, arith}
+use Rattle.std.proofs.Common.{◌≡◌, ℕ, ◌≤◌, Bool, true, false, cond, eqb, leb, List, [], ◌∷◌, ◌++◌, length, Ok, Err, Result, refl, ap, ◌∙◌, subst}
 use Rattle.std.proofs.lemmas.Slice.Eq.{bytes_eq-Decides}
 use Rattle.std.proofs.lemmas.Bool.{and_parts, and_from, eq-eqb, eqb-true, leb-true}
 use Rattle.std.specs.Option.{ok_or}
@@ -43,7 +43,7 @@ module _ (line : List ℕ) (q : Asked) (short : length line ≤ 32) where
           short = short;
         },
       )
-  formed_for f false e is h = let z : ◌≡◌ {A = ℕ} 0 1 = cc in absurd (omega arith)
+  formed_for f false e is h = absurd cc
 
   formed_at : (f : Function) (fs : List Function) (t : Bool) → is_for f line ≡ t → (question_among fs line ≡ Ok q → Formed line)
       → cond t (question_for f (behind_name f line)) (question_among fs line) ≡ Ok q
@@ -52,14 +52,14 @@ module _ (line : List ℕ) (q : Asked) (short : length line ≤ 32) where
   formed_at f fs false e rest h = rest h
 
   formed_among : (fs : List Function) → question_among fs line ≡ Ok q → Formed line
-  formed_among [] h = let z : ◌≡◌ {A = ℕ} 0 1 = cc in absurd (omega arith)
+  formed_among [] h = absurd cc
   formed_among (f ∷ fs) h = formed_at f fs (is_for f line) refl (formed_among fs) h
 
 formed_if : (line : List ℕ) (q : Asked) (t : Bool) → leb (length line) 32 ≡ t
     → cond t (question_among functions line) (Err Malformed) ≡ Ok q
     → Formed line
 formed_if line q true e h = formed_among line q (leb-true (length line) 32 e) functions h
-formed_if line q false e h = let z : ◌≡◌ {A = ℕ} 0 1 = cc in absurd (omega arith)
+formed_if line q false e h = absurd cc
 
 formed : (line : List ℕ) (q : Asked) → question_in line ≡ Ok q → Formed line
 unfolding question_in

@@ -32,6 +32,7 @@ fn at_f64<F: FnOnce(f64) -> f64>(function: F, bits: u64) -> u64
 }
 
 // The same of an f32.
+// Stays two functions: one for both would need a trait of bits with two impls, for two lines.
 fn at_f32<F: FnOnce(f32) -> f32>(function: F, bits: u64) -> u64
     requires callable { F.pre function (from_bits binary32 bits) }
     requires fits { bits < 2 ^ 32 }

@@ -24,6 +24,7 @@ impl Numbered for Refusal {
 
 impl Refusal {
     // The text that is printed for the refusal.
+    // Stays no Display: of a `write!` nothing is known where it fails, and this text has to come.
     pub(crate) fn text(self) -> Reply
         ensures { held result ≡ refusal_text self }
     {
