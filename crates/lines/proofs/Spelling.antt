@@ -1,5 +1,5 @@
 -- Digits and the numbers that they spell: the steps of the loops over digits, and reading back what was written.
-use Rattle.std.proofs.Common.{◌≡◌, ℕ, zero, suc, ◌+◌, ◌*◌, ◌/◌, ◌%◌, ◌^◌, ◌<◌, ◌≤◌, Bool, true, ◌&&◌, List, [], ◌∷◌, ◌++◌, length, get_or, take, drop, sym, refl, ap, ◌∙◌, add_assoc, mod-lt, mod-eq_of_lt, mul_assoc, mul_comm, add-mul, pow-suc, add-one, arith, lit<, pow-add}
+use Rattle.std.proofs.Common.{◌≡◌, ℕ, zero, suc, ◌+◌, ◌*◌, ◌/◌, ◌%◌, ◌^◌, ◌<◌, ◌≤◌, Bool, true, ◌&&◌, List, [], ◌∷◌, ◌++◌, length, get_or, take, drop, sym, refl, ap, ◌∙◌, mod-lt, mod-eq_of_lt, mul_comm, pow-suc, add-one, arith, lit<, pow-add}
 use native.Mathlib.Nat.{pow-le-pow_right, mod-one, one-le-pow}
 use lib.Arith.{mod-mul}
 use Rattle.std.proofs.lemmas.List.{at_drop_more, take_all, length-append, length_push, append_assoc}
@@ -10,9 +10,7 @@ use Rattle.lines.specs.Digits.{is_digit, digit_of, all_digits, spelled, byte_of,
 -- one more digit is read: a number, followed by the digits from i on, spells v
 module _ (n i v : ℕ) (digits : List ℕ) (inside : i < length digits) where
   carry : (d p s : ℕ) → (n * 16 + d) * p + s ≡ n * (p * 16) + (d * p + s)
-  carry d p s =
-      ap (λ x. x + s) (add-mul (n * 16) d p ∙ ap (λ x. x + d * p) (mul_assoc n 16 p ∙ ap (λ x. n * x) (mul_comm 16 p)))
-      ∙ add_assoc (n * (p * 16)) (d * p) s
+  carry d p s = grind arith
 
   pub spell_more : (d next : ℕ) → d ≡ digit_of (get_or digits i 0) → next ≡ n * 16 + d
       → n * 16 ^ length (drop i digits) + spelled (drop i digits) ≡ v

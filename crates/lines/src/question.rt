@@ -13,7 +13,7 @@ use std::marker::Model;
 // The most bytes of a line, without its line feed.
 const LONGEST: usize = 32;
 
-// A function, and the bits of the number at which its result is wanted: no more digits than it takes.
+// A function, and the bits of the number at which its result is wanted: they fit the digits that it takes.
 #[derive(Clone, Copy)]
 pub(crate) struct Question {
     function: Function,
