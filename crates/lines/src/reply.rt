@@ -1,5 +1,5 @@
 // The reply to a line.
-ghost use Rattle.std.specs.Prelude.{◌≡◌};
+ghost use Rattle.std.specs.Prelude.{◌≡◌, ◌++◌, take, codes};
 ghost use Rattle.lines.specs.Held.{held};
 ghost use Rattle.lines.specs.Laws.{Fitting, Answers};
 ghost use Rattle.lines.specs.Replies.{question_in, answer_to, reply_to};
@@ -18,12 +18,18 @@ fn answer(line: &[u8]) -> Reply
     }
 }
 
+// The text and a line feed, for which it has room.
+fn with_line_feed(mut text: Reply) -> Reply
+    ensures { held result ≡ take 17 (held text ++ codes "\n") }
+{
+    text.push(b'\n');
+    text
+}
+
 // What is printed for a line, which comes without its line feed.
 pub fn reply(line: &[u8]) -> Reply
     ensures value { held result ≡ reply_to line.now }
     ensures law { Answers line.now (held result) }
 {
-    let mut text = answer(line);
-    text.push(b'\n');
-    text
+    with_line_feed(answer(line))
 }

@@ -45,6 +45,7 @@ pub struct Known {
 }
 
 // One row of the table.
+// Stays a function: as literals the fourteen rows would take five lines each.
 fn row(function: Function, argument: u64, res: u64) -> Known
     ensures { result ≡ record { function = function; argument = argument; result = res } }
 {
