@@ -1,16 +1,16 @@
 -- The law of a reply.
-use Rattle.std.proofs.Common.{◌≡◌, ℕ, ◌≤◌, Bool, true, false, cond, eqb, leb, List, [], ◌∷◌, ◌++◌, length, Ok, Err, Result, refl, ap, ◌∙◌, subst, arith}
+use Rattle.std.proofs.Common.{◌≡◌, ℕ, ◌≤◌, Bool, true, false, cond, eqb, leb, List, [], ◌∷◌, ◌++◌, length, Ok, Err, Result, refl, ap, ◌∙◌, subst}
 use Rattle.std.proofs.lemmas.Slice.Eq.{bytes_eq-Decides}
 use Rattle.std.proofs.lemmas.Bool.{and_parts, and_from, eq-eqb, eqb-true, leb-true}
+use Rattle.std.specs.Option.{ok_or}
 use Rattle.lines.specs.declared.function.Function.{Function}
-use Rattle.lines.specs.declared.question.Question.{Question}
 use Rattle.lines.specs.declared.refusal.Refusal.{Refusal}
 use Rattle.lines.specs.declared.refusal.Refusal.TheVariants.{Malformed}
 use Rattle.lines.specs.Digits.{all_digits, spelled}
 use Rattle.lines.specs.Functions.{functions, name_of, places_of, result_at}
 use Rattle.lines.specs.Laws.{WellFormed, Answers, Fitting}
-use Rattle.lines.specs.Replies.{line_for, takes, question_for, behind_name, is_for, question_among, question_in, answer_to, reply_to}
-use Rattle.lines.proofs.Names.{no_space, found_so}
+use Rattle.lines.specs.Replies.{Asked, line_for, takes, question_for, behind_name, is_for, question_among, question_in, answer_to, reply_to}
+use Rattle.lines.proofs.Names.{one_letter, found_so}
 use Rattle.lines.proofs.Reading.{asked, named}
 use Rattle.lines.proofs.Spelling.{length_written, all_written, read_back}
 
@@ -19,8 +19,8 @@ asks_so : (f : Function) (digits line : List ℕ) → WellFormed f digits line
     → question_in line ≡ Ok (record { function = f; bits = spelled digits })
 asks_so f digits line w =
     ap (λ l. question_in l) w.parts
-    ∙ (named (name_of f) digits (no_space f) (subst (λ (l : List ℕ). length l ≤ 32) w.parts w.short)
-    ∙ (ap (λ o. asked o digits) (found_so f)
+    ∙ (named (name_of f) digits (one_letter f) (subst (λ (l : List ℕ). length l ≤ 32) w.parts w.short)
+    ∙ (ap (λ o. asked (ok_or o Malformed) digits) (found_so f)
     ∙ ap (λ t. cond t (Ok (record { function = f; bits = spelled digits })) (Err Malformed))
     (and_from (eqb (length digits) (places_of f)) (all_digits digits) (eq-eqb (length digits) (places_of f) w.count) w.hexadecimal)))
 
@@ -28,7 +28,7 @@ asks_so f digits line w =
 abbrev Formed : List ℕ → Type 0
 Formed line = (f : Function) × (digits : List ℕ) × WellFormed f digits line
 
-module _ (line : List ℕ) (q : Question) (short : length line ≤ 32) where
+module _ (line : List ℕ) (q : Asked) (short : length line ≤ 32) where
   formed_for : (f : Function) (t : Bool) → takes f (behind_name f line) ≡ t → is_for f line ≡ true
       → cond t (Ok (record { function = f; bits = spelled (behind_name f line) })) (Err Malformed) ≡ Ok q
       → Formed line
@@ -43,7 +43,7 @@ module _ (line : List ℕ) (q : Question) (short : length line ≤ 32) where
           short = short;
         },
       )
-  formed_for f false e is h = let z : ◌≡◌ {A = ℕ} 0 1 = cc in absurd (omega arith)
+  formed_for f false e is h = absurd cc
 
   formed_at : (f : Function) (fs : List Function) (t : Bool) → is_for f line ≡ t → (question_among fs line ≡ Ok q → Formed line)
       → cond t (question_for f (behind_name f line)) (question_among fs line) ≡ Ok q
@@ -52,20 +52,20 @@ module _ (line : List ℕ) (q : Question) (short : length line ≤ 32) where
   formed_at f fs false e rest h = rest h
 
   formed_among : (fs : List Function) → question_among fs line ≡ Ok q → Formed line
-  formed_among [] h = let z : ◌≡◌ {A = ℕ} 0 1 = cc in absurd (omega arith)
+  formed_among [] h = absurd cc
   formed_among (f ∷ fs) h = formed_at f fs (is_for f line) refl (formed_among fs) h
 
-formed_if : (line : List ℕ) (q : Question) (t : Bool) → leb (length line) 32 ≡ t
+formed_if : (line : List ℕ) (q : Asked) (t : Bool) → leb (length line) 32 ≡ t
     → cond t (question_among functions line) (Err Malformed) ≡ Ok q
     → Formed line
 formed_if line q true e h = formed_among line q (leb-true (length line) 32 e) functions h
-formed_if line q false e h = let z : ◌≡◌ {A = ℕ} 0 1 = cc in absurd (omega arith)
+formed_if line q false e h = absurd cc
 
-formed : (line : List ℕ) (q : Question) → question_in line ≡ Ok q → Formed line
+formed : (line : List ℕ) (q : Asked) → question_in line ≡ Ok q → Formed line
 unfolding question_in
 formed line q h = formed_if line q (leb (length line) 32) refl h
 
-refused_at : (line : List ℕ) (Asked-is : Result Question Refusal) → question_in line ≡ Asked-is
+refused_at : (line : List ℕ) (Asked-is : Result Asked Refusal) → question_in line ≡ Asked-is
     → ((f : Function) (digits : List ℕ) → WellFormed f digits line → ⊥)
     → answer_to Asked-is ++ (10 ∷ []) ≡ 63 ∷ 32 ∷ 49 ∷ 52 ∷ 10 ∷ []
 refused_at line (Ok q) e none = let w = formed line q e in absurd (none w.0 w.1 w.2)

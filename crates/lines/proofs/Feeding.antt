@@ -1,10 +1,10 @@
 -- An input that is fed byte by byte has the replies to its lines printed, and is cut rightly.
-use Rattle.std.proofs.Common.{◌≡◌, ℕ, ◌+◌, ◌<◌, ◌≤◌, Bool, true, false, cond, eqb, List, [], ◌∷◌, ◌++◌, length, get_or, take, drop, Some, None, Option, sym, refl, ap, ◌∙◌, inl, inr, arith}
-use Rattle.std.proofs.lemmas.List.{append-nil, append_assoc, take_all, length-append, length-take-le, at_drop_more, at_drop_all}
+use Rattle.std.proofs.Common.{◌≡◌, ℕ, ◌<◌, Bool, true, false, cond, eqb, List, [], ◌∷◌, ◌++◌, length, take, Some, None, sym, refl, ap, ◌∙◌, inl, inr, arith}
+use Rattle.std.proofs.lemmas.List.{append-nil, append_assoc, take_all, length-append, length-take-le}
 use Rattle.std.proofs.lemmas.Bool.{cases_lt, eqb-true, eqb-false}
 use Rattle.std.specs.List.{flat_map, AllByRecursion}
 use Rattle.lines.specs.Replies.{reply_to, answer_to}
-use Rattle.lines.specs.Cutting.{on_first, lines_of, ended, bytes_of, fed, FedRight, CutRight, reply_at, reply_at_end, begun_after}
+use Rattle.lines.specs.Cutting.{on_first, lines_of, ended, bytes_of, fed, FedRight, CutRight, reply_at_end}
 use Rattle.lines.proofs.Reading.{too_long}
 
 -- what follows the 33rd byte of a line does not change its reply
@@ -104,23 +104,3 @@ whole (b ∷ c ∷ bs) = rejoin_at b c (eqb b 10) (eqb c 10) (lines_of bs) (ende
 
 pub cut_right : CutRight
 cut_right input = record { plain = plain input; whole = whole input }
-
--- one more byte is fed, and what it has printed is added
-module _ (input : List ℕ) (i : ℕ) (line printed after v : List ℕ) (reply : Option (List ℕ))
-    (added : after ≡ printed ++ bytes_of reply)
-    (inv : printed ++ fed line (drop i input) ≡ v) where
-  pub feed_more : (next : List ℕ) → i < length input → reply ≡ reply_at line (get_or input i 0) → next ≡ begun_after line (get_or input i 0)
-      → after ++ fed next (drop (i + 1) input) ≡ v
-  feed_more next inside e en =
-      ap (λ l. l ++ fed next (drop (i + 1) input)) added
-      ∙ (append_assoc printed (bytes_of reply) (fed next (drop (i + 1) input))
-      ∙ (ap (λ r. printed ++ (bytes_of r ++ fed next (drop (i + 1) input))) e
-      ∙ (ap (λ l. printed ++ (bytes_of (reply_at line (get_or input i 0)) ++ fed l (drop (i + 1) input))) en
-      ∙ (ap (λ l. printed ++ l) (sym (at_drop_more (λ l. fed line l) input i 0 inside)) ∙ inv))))
-
-  -- the input has ended
-  pub feed_end : length input ≤ i → reply ≡ reply_at_end line → after ≡ v
-  feed_end end e =
-      added
-      ∙ (ap (λ r. printed ++ bytes_of r) e
-      ∙ (ap (λ l. printed ++ l) (sym (at_drop_all (λ l. fed line l) input i end)) ∙ inv))

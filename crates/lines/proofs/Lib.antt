@@ -1,5 +1,4 @@
 mod Answered
-mod Bytes
 mod Feeding
 mod Names
 mod Reading

@@ -1,8 +1,8 @@
 -- Digits and the numbers that they spell: the steps of the loops over digits, and reading back what was written.
-use Rattle.std.proofs.Common.{◌≡◌, ℕ, zero, suc, ◌+◌, ◌*◌, ◌/◌, ◌%◌, ◌^◌, ◌<◌, ◌≤◌, Bool, true, ◌&&◌, List, [], ◌∷◌, ◌++◌, length, get_or, take, drop, sym, refl, ap, ◌∙◌, add_assoc, mod-lt, mod-eq_of_lt, mul_assoc, mul_comm, add-mul, pow-suc, add-one, arith, lit<, pow-add}
+use Rattle.std.proofs.Common.{◌≡◌, ℕ, zero, suc, ◌+◌, ◌*◌, ◌/◌, ◌%◌, ◌^◌, ◌<◌, ◌≤◌, Bool, true, ◌&&◌, List, [], ◌∷◌, ◌++◌, length, get_or, take, drop, sym, refl, ap, ◌∙◌, mod-lt, mod-eq_of_lt, mul_comm, pow-suc, add-one, arith, lit<, pow-add}
 use native.Mathlib.Nat.{pow-le-pow_right, mod-one, one-le-pow}
 use lib.Arith.{mod-mul}
-use Rattle.std.proofs.lemmas.List.{at_drop_more, at_drop_all, take_all, length-append, length_push, append_assoc}
+use Rattle.std.proofs.lemmas.List.{at_drop_more, take_all, length-append, length_push, append_assoc}
 use Rattle.std.proofs.lemmas.Bool.{and_from}
 use Rattle.std.proofs.lemmas.Bool.Decides.{nat_tests}
 use Rattle.lines.specs.Digits.{is_digit, digit_of, all_digits, spelled, byte_of, written}
@@ -10,9 +10,7 @@ use Rattle.lines.specs.Digits.{is_digit, digit_of, all_digits, spelled, byte_of,
 -- one more digit is read: a number, followed by the digits from i on, spells v
 module _ (n i v : ℕ) (digits : List ℕ) (inside : i < length digits) where
   carry : (d p s : ℕ) → (n * 16 + d) * p + s ≡ n * (p * 16) + (d * p + s)
-  carry d p s =
-      ap (λ x. x + s) (add-mul (n * 16) d p ∙ ap (λ x. x + d * p) (mul_assoc n 16 p ∙ ap (λ x. n * x) (mul_comm 16 p)))
-      ∙ add_assoc (n * (p * 16)) (d * p) s
+  carry d p s = grind arith
 
   pub spell_more : (d next : ℕ) → d ≡ digit_of (get_or digits i 0) → next ≡ n * 16 + d
       → n * 16 ^ length (drop i digits) + spelled (drop i digits) ≡ v
@@ -70,14 +68,6 @@ write_more place next places n byte held e few eb inv =
     ∙ (append_assoc held (byte ∷ []) (written next n)
     ∙ (ap (λ b. held ++ b ∷ written next n) eb
     ∙ (sym (ap (λ k. held ++ written k n) e) ∙ inv)))
-
--- all digits are read
-pub spell_end : (n i : ℕ) (digits : List ℕ) → length digits ≤ i
-    → n ≡ n * 16 ^ length (drop i digits) + spelled (drop i digits)
-spell_end n i digits h =
-    let all : n * 16 ^ length (drop i digits) + spelled (drop i digits) ≡ n * 1 + 0 =
-    at_drop_all (λ l. n * 16 ^ length l + spelled l) digits i h in
-    omega (arith, all)
 
 -- what is written are digits, and read back they are the number
 module _ (d : ℕ) (small : d < 16) where

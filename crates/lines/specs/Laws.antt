@@ -1,10 +1,9 @@
 -- Which lines are well formed, and the law of a reply.
 use Rattle.std.specs.Prelude.{◌≡◌, ℕ, ◌^◌, ◌<◌, ◌≤◌, true, List, ◌++◌, length, Ok, codes}
 use Rattle.lines.specs.declared.function.Function.{Function}
-use Rattle.lines.specs.declared.question.Question.{Question}
 use Rattle.lines.specs.Digits.{all_digits, spelled}
 use Rattle.lines.specs.Functions.{places_of, result_at}
-use Rattle.lines.specs.Replies.{line_for, question_in}
+use Rattle.lines.specs.Replies.{Asked, line_for, question_in}
 
 -- a line is f's name, one space and as many digits as f takes, and has at most 32 bytes
 pub record WellFormed (f : Function) (digits line : List ℕ) : Type 0 where
@@ -27,4 +26,4 @@ pub record Answers (line reply : List ℕ) : Type 0 where
 
 -- a question's result is written in as many digits as its function gives, and none is lost
 abbrev pub Fitting : List ℕ → Type 0
-Fitting line = (q : Question) → question_in line ≡ Ok q → result_at q.function q.bits < 16 ^ places_of q.function
+Fitting line = (q : Asked) → question_in line ≡ Ok q → result_at q.function q.bits < 16 ^ places_of q.function

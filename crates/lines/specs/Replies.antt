@@ -1,13 +1,17 @@
 -- What a line asks, and the reply to it. Lines are without their line feed.
-use Rattle.std.specs.Prelude.{◌≡◌, ℕ, ◌+◌, ◌<◌, ◌≤◌, Bool, cond, ◌&&◌, List, [], ◌∷◌, ◌++◌, length, drop, Ok, Err, codes, Result, ◌==◌, ◌≢◌, nat_le, slice_index}
+use Rattle.std.specs.Prelude.{ℕ, ◌+◌, Bool, cond, ◌&&◌, List, [], ◌∷◌, ◌++◌, length, drop, Ok, Err, codes, Result, ◌==◌, nat_le}
 use Rattle.std.specs.Str.{bytes_eq}
 use Rattle.lines.specs.declared.function.Function.{Function}
 use Rattle.lines.specs.declared.refusal.Refusal.{Refusal}
 use Rattle.lines.specs.declared.refusal.Refusal.TheVariants.{Malformed}
-use Rattle.lines.specs.declared.question.Question.{Question}
 use Rattle.lines.specs.Digits.{all_digits, spelled, written}
 use Rattle.lines.specs.Functions.{functions, name_of, places_of, result_at}
 use Rattle.lines.specs.Refusals.{refusal_text}
+
+-- what a line asks: a function, and the bits of the number at which its result is wanted
+pub record Asked : Type 0 where
+  pub function : Function
+  pub bits : ℕ
 
 -- a line that asks for f by these digits: its name, one space, the digits
 abbrev pub line_for : Function → List ℕ → List ℕ
@@ -18,7 +22,7 @@ abbrev pub takes : Function → List ℕ → Bool
 takes f digits = length digits == places_of f && all_digits digits
 
 -- the question for f's result at the number that the digits spell
-abbrev pub question_for : Function → List ℕ → Result Question Refusal
+abbrev pub question_for : Function → List ℕ → Result Asked Refusal
 question_for f digits = cond (takes f digits) (Ok (record { function = f; bits = spelled digits })) (Err Malformed)
 
 -- what follows f's name and one more byte
@@ -30,22 +34,16 @@ abbrev pub is_for : Function → List ℕ → Bool
 is_for f line = bytes_eq line (line_for f (behind_name f line))
 
 -- what a line asks of the first of these functions whose name it has
-abbrev pub question_among : List Function → List ℕ → Result Question Refusal
+abbrev pub question_among : List Function → List ℕ → Result Asked Refusal
 question_among [] line = Err Malformed
 question_among (f ∷ fs) line = cond (is_for f line) (question_for f (behind_name f line)) (question_among fs line)
 
 -- what a line asks; one of more than 32 bytes is refused
-unfoldable pub question_in : List ℕ → Result Question Refusal
+unfoldable pub question_in : List ℕ → Result Asked Refusal
 question_in line = cond (nat_le (length line) 32) (question_among functions line) (Err Malformed)
 
--- the index of the first space of a line, or the line's length where there is none
-pub record FirstSpace (line : List ℕ) (space : ℕ) : Type 0 where
-  pub within : space ≤ length line
-  pub before : (k : ℕ) → k < space → slice_index line k ≢ 32
-  pub found : space < length line → slice_index line space ≡ 32
-
 -- the digits of the result, or the refusal
-abbrev pub answer_to : Result Question Refusal → List ℕ
+abbrev pub answer_to : Result Asked Refusal → List ℕ
 answer_to (Ok q) = written (places_of q.function) (result_at q.function q.bits)
 answer_to (Err refusal) = refusal_text refusal
 

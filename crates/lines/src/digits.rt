@@ -1,13 +1,14 @@
 // Hexadecimal digits, and the numbers that they spell.
-ghost use Rattle.std.specs.Prelude.{◌≡◌, ◌+◌, ◌*◌, ◌/◌, ◌%◌, ◌^◌, ◌<◌, ◌≤◌, true, false, length, if◌then◌else◌, Some, None};
+ghost use Rattle.std.specs.Prelude.{◌≡◌, ◌+◌, ◌*◌, ◌/◌, ◌%◌, ◌^◌, ◌<◌, ◌≤◌, true, false, length, if◌then◌else◌, Some, None, IfSome, MatchOption};
 ghost use Rattle.lines.specs.Held.{held};
 ghost use Rattle.lines.specs.Digits.{is_digit, digit_of, all_digits, spelled, byte_of, written};
 
 use crate::short::{Reply, ShortBytes};
 
 // The value of a digit 0-9 or a-f.
+// Stays a match of bytes: `char::to_digit` takes capital letters too.
 fn digit(byte: u8) -> Option<u8>
-    ensures { elim result [ Some d ↦ (is_digit byte ≡ true) × ((d ≡ digit_of byte) × (d < 16)) | None ↦ is_digit byte ≡ false ] }
+    ensures { MatchOption result (is_digit byte ≡ false) (λ d. (is_digit byte ≡ true) × (d ≡ digit_of byte) × (d < 16)) }
 {
     match byte {
         b'0'..=b'9' => Some(byte - b'0'),
@@ -25,22 +26,21 @@ fn with_digit(n: u64, d: u8) -> u64
 }
 
 // The number that at most 16 digits spell.
+// Stays a loop: `u64::from_str_radix` takes capital letters and a sign too.
 pub(crate) fn number(digits: &[u8]) -> Option<u64>
     requires { length digits.now ≤ 16 }
     ensures value { result ≡ (if all_digits digits.now then Some (spelled digits.now) else None) }
-    ensures bound { elim result [ Some n ↦ n < 16 ^ length digits.now | None ↦ Unit {0} ] }
+    ensures bound { IfSome result (λ n. n < 16 ^ length digits.now) }
 {
-    let mut n = 0u64;
+    let mut n = 0;
     for byte in digits {
-        match digit(*byte) {
-            Some(d) => n = with_digit(n, d),
-            None => return None,
-        }
+        n = with_digit(n, digit(*byte)?);
     }
     Some(n)
 }
 
 // The digit of a value below 16, in lower case.
+// Stays two sums: of `char::from_digit` an Option and a char would have to be taken apart.
 fn byte_of(d: u8) -> u8
     requires { d < 16 }
     ensures { result ≡ byte_of d }
@@ -57,6 +57,7 @@ fn digit_at(n: u64, place: usize) -> u8
 }
 
 // The lowest digits of n, at most 16, the highest first.
+// Stays a loop: of a `write!` nothing is known where it fails, and these digits have to come.
 pub(crate) fn digits_of(n: u64, places: usize) -> Reply
     requires { places ≤ 16 }
     ensures { held result ≡ written places n }

@@ -19,10 +19,9 @@ impl<const N: usize> ShortBytes<N> {
     pub(crate) fn push(&mut self, byte: u8)
         ensures { held self.new ≡ take N (held self.old ++ byte ∷ []) }
     {
-        let len = self.len;
-        if len < N {
-            self.bytes[len] = byte;
-            self.len = len + 1;
+        if self.len < N {
+            self.bytes[self.len] = byte;
+            self.len += 1;
         }
     }
 
@@ -30,7 +29,6 @@ impl<const N: usize> ShortBytes<N> {
     pub fn as_slice(&self) -> &[u8]
         ensures { result.now ≡ held self.now }
     {
-        let all = &self.bytes[..];
-        &all[0..self.len]
+        &self.bytes[..self.len]
     }
 }

@@ -6,7 +6,7 @@ ghost use Rattle.lines.specs.Refusals.{told, refusal_text};
 use crate::short::{Reply, ShortBytes};
 use refusals::Numbered;
 
-#[derive(Clone, Copy)]
+#[derive(Clone, Copy, PartialEq, Eq, Debug)]
 pub enum Refusal {
     // The line is no function's name, one space and as many digits as it takes.
     Malformed,
@@ -24,6 +24,7 @@ impl Numbered for Refusal {
 
 impl Refusal {
     // The text that is printed for the refusal.
+    // Stays no Display: of a `write!` nothing is known where it fails, and this text has to come.
     pub(crate) fn text(self) -> Reply
         ensures { held result ≡ refusal_text self }
     {

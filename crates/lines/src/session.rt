@@ -49,7 +49,7 @@ impl Session {
         ensures { option_map held result ≡ reply_at_end (begun self) }
     {
         let last = self.line.as_slice();
-        if last.len() == 0 {
+        if last.is_empty() {
             None
         } else {
             Some(reply(last))
@@ -61,10 +61,10 @@ impl Session {
 fn add_reply(printed: &mut Vec<u8>, reply: Option<Reply>) -> Result<(), AllocError>
     ensures { OnOk result (printed.new.items ≡ printed.old.items ++ bytes_of (option_map held reply)) }
 {
-    match reply {
-        Some(bytes) => printed.extend_from_slice(bytes.as_slice()),
-        None => Ok(()),
+    if let Some(bytes) = reply {
+        printed.extend_from_slice(bytes.as_slice())?;
     }
+    Ok(())
 }
 
 // What is printed for an input.

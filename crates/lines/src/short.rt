@@ -2,6 +2,7 @@
 ghost use Rattle.std.specs.Prelude.{◌≡◌, ◌≤◌, length};
 
 // At most N bytes.
+// Stays an array with a length: `ArrayVec` is not Copy, as sessions and replies are, and an `ArrayString` holds text only.
 #[derive(Clone, Copy)]
 pub struct ShortBytes<const N: usize> {
     pub(crate) bytes: [u8; N],

@@ -4,6 +4,8 @@
 #[cfg(test)]
 mod cutting;
 #[cfg(test)]
+mod letters;
+#[cfg(test)]
 mod malformed;
 #[cfg(test)]
 mod well_formed;

@@ -2,19 +2,24 @@
 #![tactic(auto)]
 
 use lines::session::Session;
+use lines::short::Reply;
 use std::io;
 use std::io::{BufReader, BufWriter, Read, Write};
+
+// Writes a reply, if there is one.
+fn write_reply(out: &mut impl Write, reply: Option<Reply>) -> io::Result<()> {
+    if let Some(bytes) = reply {
+        out.write_all(bytes.as_slice())?;
+    }
+    Ok(())
+}
 
 fn main(rt: HostRuntime) -> io::Result<()> {
     let mut out = BufWriter::new(rt.alloc(), rt.stdout())?;
     let mut session = Session::new();
     for byte in BufReader::new(rt.alloc(), rt.stdin())?.bytes() {
-        if let Some(reply) = session.feed(byte?) {
-            out.write_all(reply.as_slice())?;
-        }
+        write_reply(&mut out, session.feed(byte?))?;
     }
-    if let Some(reply) = session.finish() {
-        out.write_all(reply.as_slice())?;
-    }
+    write_reply(&mut out, session.finish())?;
     out.flush()
 }

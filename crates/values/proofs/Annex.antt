@@ -1,6 +1,6 @@
 -- The definitions have Annex F's special values. Assumes nothing.
-use Rattle.std.proofs.Common.{◌≡◌, ℕ, zero, suc, ◌+◌, ◌*◌, ◌<◌, Bool, true, false, cond, T, ℤ, pos, sym, refl, ap, ◌∙◌, subst, arith, ltb→lt}
-use lib.Ieee.{Float, nan, inf, fin, up, down, neg, lt, eq, of_bits}
+use Rattle.std.proofs.Common.{◌≡◌, ℕ, zero, suc, Bool, true, false, cond, T, ℤ, pos, sym, refl, ap, ◌∙◌, subst, arith, ltb→lt}
+use lib.Ieee.{Float, nan, inf, fin, neg, lt, eq, of_bits}
 use Rattle.std.specs.Float.{is_sign_negative, float_with_sign}
 use Rattle.numeric.proofs.Tests.{is_on}
 use Rattle.exponential.specs.Exp.{exp_of}
@@ -28,36 +28,21 @@ first b p q h = ap (λ (c : Bool). cond c p q) (is_on b h)
 -- a zero lies below no zero, and neither below -1 nor above 1
 no_zero_below : (s : Bool) (e : ℤ) → T (lt (fin s 0 e) (fin false 0 (pos 0))) → ⊥
 unfolding lt
-no_zero_below true e h = let l = ltb→lt 0 (0 * up e * 1 + 0 * 1 * down e) h in none (up e) (down e) l
-  where
-    none : (a b : ℕ) → 0 < 0 * a * 1 + 0 * 1 * b → ⊥
-    none a b l = omega arith
-no_zero_below false e h = let l = ltb→lt (0 * up e * 1) (0 * 1 * down e) h in none (up e) (down e) l
-  where
-    none : (a b : ℕ) → 0 * a * 1 < 0 * 1 * b → ⊥
-    none a b l = omega arith
+no_zero_below true e h = omega (arith, ltb→lt _ _ h)
+no_zero_below false e h = omega (arith, ltb→lt _ _ h)
 
 nothing_below_zero : (m : ℕ) (e : ℤ) → T (lt (fin false m e) (fin false 0 (pos 0))) → ⊥
 unfolding lt
-nothing_below_zero m e h = let l = ltb→lt (m * up e * 1) (0 * 1 * down e) h in none (m * up e) (down e) l
-  where
-    none : (a b : ℕ) → a * 1 < 0 * 1 * b → ⊥
-    none a b l = omega arith
+nothing_below_zero m e h = omega (arith, ltb→lt _ _ h)
 
 no_zero_below_minus_one : (s : Bool) (e : ℤ) → T (lt (fin s 0 e) (fin true 1 (pos 0))) → ⊥
 unfolding lt
 no_zero_below_minus_one false e h = h
-no_zero_below_minus_one true e h = let l = ltb→lt (1 * 1 * down e) (0 * up e * 1) h in none (up e) (down e) l
-  where
-    none : (a b : ℕ) → 1 * 1 * b < 0 * a * 1 → ⊥
-    none a b l = omega arith
+no_zero_below_minus_one true e h = omega (arith, ltb→lt _ _ h)
 
 no_zero_above_one : (e : ℤ) → T (lt (fin false 1 (pos 0)) (fin false 0 e)) → ⊥
 unfolding lt
-no_zero_above_one e h = let l = ltb→lt (1 * 1 * down e) (0 * up e * 1) h in none (up e) (down e) l
-  where
-    none : (a b : ℕ) → 1 * 1 * b < 0 * a * 1 → ⊥
-    none a b l = omega arith
+no_zero_above_one e h = omega (arith, ltb→lt _ _ h)
 
 -- ---- outside the domains
 acosh_below : (x : Float) → T (lt x (fin false 1 (pos 0))) → acosh_of x ≡ nan

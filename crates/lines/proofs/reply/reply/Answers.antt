@@ -1,21 +1,14 @@
-use Rattle.std.proofs.Common.{◌≡◌, ℕ, List, [], ◌∷◌, ◌++◌, take, sym, ap, ◌∙◌, subst}
-use Rattle.lines.specs.Held.{held}
-use Rattle.lines.specs.Laws.{Answers}
+use Rattle.std.proofs.Common.{◌∷◌, [], ◌++◌, take, ap, ◌∙◌}
 use Rattle.lines.specs.Replies.{reply_to, question_in}
 use Rattle.lines.proofs.Answered.{answers}
 use Rattle.lines.proofs.Reading.{line_feed_fits}
 use Rattle.lines.proofs.reply.reply.Goals as goal
 
-printed : (c : goal.After-with_line_feed) → held c.with_line_feed.result ≡ reply_to c.args.line.now
+pub returns-clause-value : goal.returns-clause-value
 unfolding reply_to
-printed c =
+returns-clause-value c =
     c.with_line_feed.ensures
     ∙ (ap (λ l. take 17 (l ++ 10 ∷ [])) c.answer.ensures.value ∙ line_feed_fits (question_in c.args.line.now))
 
-pub returns : goal.returns
-returns c = record {
-  value = printed c;
-  law =
-      subst (λ (l : List ℕ). Answers c.args.line.now l) (sym (printed c))
-      (answers c.args.line.now c.answer.ensures.fitting);
-}
+pub returns-clause-law : goal.returns-clause-law
+returns-clause-law c = rw (returns-clause-value c) (answers c.args.line.now c.answer.ensures.fitting)
