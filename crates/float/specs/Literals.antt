@@ -1,5 +1,5 @@
 -- Each small number is one value, whatever the format.
-use Rattle.std.specs.Prelude.{◌≡◌, refl, Float}
+use Rattle.std.specs.Prelude.{◌≡◌, refl}
 use Rattle.std.specs.Float.{Format, binary32, binary64}
 use Rattle.std.specs.Float.Ieee.{of_bits}
 use Rattle.float.specs.Constants.{one, two, three, six, half, minus_one, minus_two, minus_half, minus_quarter, infinity, minus_infinity, plus_zero, not_a_number}
@@ -23,10 +23,32 @@ pub record Literals (f : Format) : Type 0 where
 pub literals : (f : Format) → Literals f
 unfolding of_bits
 literals binary32 = record {
-  one_is = refl; two_is = refl; three_is = refl; six_is = refl; half_is = refl; minus_one_is = refl; minus_two_is = refl; minus_half_is = refl;
-  minus_quarter_is = refl; infinity_is = refl; minus_infinity_is = refl; plus_zero_is = refl; not_a_number_is = refl;
+  one_is = refl;
+  two_is = refl;
+  three_is = refl;
+  six_is = refl;
+  half_is = refl;
+  minus_one_is = refl;
+  minus_two_is = refl;
+  minus_half_is = refl;
+  minus_quarter_is = refl;
+  infinity_is = refl;
+  minus_infinity_is = refl;
+  plus_zero_is = refl;
+  not_a_number_is = refl;
 }
 literals binary64 = record {
-  one_is = refl; two_is = refl; three_is = refl; six_is = refl; half_is = refl; minus_one_is = refl; minus_two_is = refl; minus_half_is = refl;
-  minus_quarter_is = refl; infinity_is = refl; minus_infinity_is = refl; plus_zero_is = refl; not_a_number_is = refl;
+  one_is = refl;
+  two_is = refl;
+  three_is = refl;
+  six_is = refl;
+  half_is = refl;
+  minus_one_is = refl;
+  minus_two_is = refl;
+  minus_half_is = refl;
+  minus_quarter_is = refl;
+  infinity_is = refl;
+  minus_infinity_is = refl;
+  plus_zero_is = refl;
+  not_a_number_is = refl;
 }

@@ -18,9 +18,7 @@ use Rattle.inverse.specs.Asinh.{asinh_of}
 use Rattle.inverse.specs.Acosh.{acosh_of}
 use Rattle.inverse.specs.Atanh.{atanh_of}
 use Rattle.inverse.proofs.Oddness.{asinh_odd, atanh_odd}
-use Rattle.single.specs.Expm1f as Expm1f
 use Rattle.single.specs.Expm1f.{expm1f_of}
-use Rattle.single.specs.Log1pf as Log1pf
 use Rattle.single.specs.Log1pf.{log1pf_of}
 use Rattle.exponential_laws.proofs.Exp.{exp_above}
 use Rattle.exponential_laws.proofs.Expm1.{expm1_above}
@@ -72,11 +70,11 @@ log1p_ok x h = log1p_fits Log1p.double x h
 
 expm1f_ok : (x : Float) → T (fits binary32 x) → T (fits binary32 (expm1f_of x))
 unfolding expm1f_of
-expm1f_ok x h = expm1_fits Expm1f.single x h
+expm1f_ok x h = expm1_fits Expm1.single x h
 
 log1pf_ok : (x : Float) → T (fits binary32 x) → T (fits binary32 (log1pf_of x))
 unfolding log1pf_of
-log1pf_ok x h = log1p_fits Log1pf.single x h
+log1pf_ok x h = log1p_fits Log1p.single x h
 
 -- ---- from an end upward
 pub exp_sound : Sound (floats binary64) (upward binary64 exp_of log_of (plus_zero binary64))

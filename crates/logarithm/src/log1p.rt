@@ -86,7 +86,11 @@ fn banded<F: Table>(x: F) -> F
 fn tested<F: Table>(x: F) -> F
     ensures { F.float result ≡ tests_of F.table (F.float x) }
 {
-    if x == F::of(f32::INFINITY) { x } else { banded(x) }
+    if x == F::of(f32::INFINITY) {
+        x
+    } else {
+        banded(x)
+    }
 }
 
 // The natural logarithm of 1 + x, accurate for small x too, of either width. A NaN stays.

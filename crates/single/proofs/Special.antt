@@ -1,6 +1,6 @@
 -- What is computed of the tables of binary32: the special values. Assumes nothing.
 use Rattle.std.proofs.Common.{◌≡◌, Bool, true, false, pos, refl}
-use lib.Ieee.{fin, add, mul, neg, le, lt, eq, of_bits}
+use lib.Ieee.{fin, lt, eq, of_bits}
 use Rattle.std.specs.Float.{is_sign_negative, float_with_sign}
 use Rattle.numeric.proofs.Cases.{Agree}
 use Rattle.exponential.specs.Expm1 as Expm1

@@ -9,7 +9,6 @@ use Rattle.logarithm.specs.Log.{log_of}
 use Rattle.logarithm.specs.Log1p as Log1p
 use Rattle.logarithm.specs.Log1p.{log1p_of}
 use Rattle.single.specs.Expm1f.{expm1f_of}
-use Rattle.single.specs.Log1pf as Log1pf
 use Rattle.single.specs.Log1pf.{log1pf_of}
 use Rattle.float.specs.Constants.{minus_one, not_a_number}
 use Rattle.hyperbolic.specs.Sinh.{sinh_of}
@@ -119,5 +118,5 @@ annex_f = record {
   log = record { keeps_nan = refl; at_zero = λ s. refl; at_one = log_one; below_zero = log_below; at_infinity = refl };
   log1p = record { keeps_nan = refl; keeps_zeros = λ s. refl; at_minus_one = log1p_minus_one.0; below_minus_one = log1p_below Log1p.double refl refl; at_infinity = refl };
   expm1f = record { keeps_nan = refl; keeps_zeros = λ s. refl; at_minus_infinity = refl; at_infinity = refl };
-  log1pf = record { keeps_nan = refl; keeps_zeros = λ s. refl; at_minus_one = log1p_minus_one.1; below_minus_one = log1p_below Log1pf.single refl refl; at_infinity = refl };
+  log1pf = record { keeps_nan = refl; keeps_zeros = λ s. refl; at_minus_one = log1p_minus_one.1; below_minus_one = log1p_below Log1p.single refl refl; at_infinity = refl };
 }

@@ -1,4 +1,4 @@
-use Rattle.std.proofs.Common.{ℕ, ◌/◌, ◌%◌, ◌^◌, T, ltb, sym, ap, ◌∙◌, subst}
+use Rattle.std.proofs.Common.{ℕ, ◌%◌, ◌^◌, T, ltb, sym, ap, ◌∙◌, subst}
 use lib.Ieee.{binary32}
 use Rattle.numeric.proofs.Words.{bits_is}
 use Rattle.float.proofs.width.F32Width.size_word.Goals as goal
