@@ -40,6 +40,6 @@ impl Kind for f64 {
     }
 
     fn over(self, count: Count) -> f64 {
-        self / (count.get() as f64)
+        self / f64::from(count.get())
     }
 }

@@ -40,6 +40,6 @@ impl Kind for f32 {
     }
 
     fn over(self, count: Count) -> f32 {
-        self / (count.get() as f32)
+        self / f32::from(count.get())
     }
 }
