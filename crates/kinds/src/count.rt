@@ -17,12 +17,10 @@ impl Count {
     pub fn new(value: usize) -> Option<Count>
         ensures { option_map (λ (c : Count). c.value) result ≡ counted value }
     {
-        let value = u16::try_from(value).ok()?;
-        if (1..=MOST).contains(&value) {
-            Some(Count { value })
-        } else {
-            None
-        }
+        let value = u16::try_from(value)
+            .ok()
+            .filter(|n| (1..=MOST).contains(n))?;
+        Some(Count { value })
     }
 
     pub fn get(self) -> u16
