@@ -1,4 +1,4 @@
-use Rattle.std.proofs.Common.{◌≡◌, ap, ◌∙◌, Bool, true, false, cond, ◌||◌, Option, Ordering, Some, None, Less, Equal, Greater, refl}
+use Rattle.std.proofs.Common.{rules, ◌≡◌, ap, ◌∙◌, Bool, true, false, cond, ◌||◌, Option, Ordering, Some, None, Less, Equal, Greater, refl}
 use Rattle.std.specs.Ordering.{is_some_and, is_le, float_partial_cmp}
 use Rattle.std.specs.Float.{Float}
 use Rattle.std.specs.Float.Ieee.{le, lt, eq}
@@ -16,4 +16,4 @@ le_is o x y e = ap (is_some_and is_le) e ∙ cases (lt x y) (eq x y) (lt y x)
     cases false false false = refl
 
 pub returns : goal.returns
-returns g c = c.le.ensures ∙ le_is _ _ _ (g.met.F.Float.float_order_law c.args.self c.args.other)
+returns g c = let same = le_is _ _ _ (g.met.F.Float.float_order_law c.args.self c.args.other) in search rules
