@@ -59,11 +59,7 @@ pub trait Full: Conversion {
         ensures answer { answered result ≡ back_number_answer Self.Figure.Kind.means (Self.Conversion.rule self.now) x }
         ensures within { Gives (in_range Self.Figure.Kind.means (Self.Conversion.rule self.now)) result }
     {
-        if x.is_number() {
-            self.back(x)
-        } else {
-            Err(Refusal::OutsideBackRange)
-        }
+        self.back(x)
     }
 
     ghost all: { (c : Self) → AllNumbers Self.Figure.Kind.means (Self.Conversion.rule c) };
