@@ -2,7 +2,7 @@
 -- fits and lies between the ends, that back of what lies there is a number, and, if it is odd, that both
 -- functions turn with the sign. Assumes nothing.
 use Rattle.std.proofs.Common.{◌≡◌, Bool, true, false, not, ◌&&◌, T, sym, refl, ap, ◌∙◌, subst}
-use lib.Ieee.{Float, Format, binary32, binary64, nan, inf, fin, neg, le, is_nan, fits, of_bits}
+use lib.Ieee.{Float, Format, binary32, binary64, inf, neg, le, is_nan, fits, of_bits}
 use Rattle.numeric.proofs.Rounding.{and_l, and_r, and_i}
 use Rattle.numeric.proofs.Numbers.{inf_le}
 use Rattle.numeric.proofs.Order.{le_inf, le_self, number_above}

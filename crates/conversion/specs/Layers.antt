@@ -1,10 +1,8 @@
 -- What a flip and a chain keep. Assumes nothing.
-use Rattle.std.specs.Prelude.{◌≡◌, Bool, true, false, cond, ◌&&◌, Ok, Err, Result, refl}
+use Rattle.std.specs.Prelude.{◌≡◌, Bool, true, false, ◌&&◌, refl}
 use Rattle.std.proofs.Common.{ap, ◌∙◌}
 use Rattle.kinds.specs.Kinds.{Meaning}
-use Rattle.conversion.specs.declared.refusal.Refusal.{Refusal}
-use Rattle.conversion.specs.Refusals.{answered, outside}
-use Rattle.conversion.specs.Conversions.{Rule, Gives, in_range, back_answer, back_number_answer, Sound, AllNumbers, Mirrored, flipped, chained}
+use Rattle.conversion.specs.Conversions.{Rule, in_range, Sound, AllNumbers, Mirrored, flipped, chained}
 
 and_left : (a b : Bool) → (a && b) ≡ true → a ≡ true
 and_left true b h = refl
