@@ -1,17 +1,13 @@
 -- What a function gives is a value of its format. Assumes nothing.
-use Rattle.std.specs.Prelude.{zero, suc, true, false, cond, not, ◌&&◌, ◌||◌, T, ℤ, pos, negsuc, from_bits, int_lt, to_bits}
+use Rattle.std.specs.Prelude.{zero, suc, true, false, T, ℤ}
 use lib.Ieee.{Float, Format, nan, inf, fin, binary64, fits, add, sub, mul, div, neg, lt, eq}
 use Rattle.std.specs.Float.Ieee.Fits.{cond-fits, nan-fits, inf-fits, neg-fits, add-fits, sub-fits, mul-fits, div-fits}
 use Rattle.std.specs.Float.Ieee.Bits.{of_bits-fits}
 use Rattle.std.specs.Float.{is_sign_negative, float_with_sign}
 use Rattle.numeric.proofs.Words.{mag_fits}
 use Rattle.numeric.proofs.Signs.{by_size}
-use Rattle.float.specs.Band.{below_bits}
-use Rattle.float.specs.Constants.{one, two, half, minus_one, minus_two, minus_quarter, plus_zero, infinity, minus_infinity, not_a_number}
-use Rattle.scaling.specs.Scalbn.{scalbn_of}
+use Rattle.float.specs.Constants.{one, minus_one, plus_zero, infinity, minus_infinity, not_a_number}
 use Rattle.scaling.proofs.Whole.{scaled_fits}
-use Rattle.exponential.specs.Ln2 as Ln2
-use Rattle.exponential.specs.Ln2.{equal_z, count_of, high_rest, low_rest}
 use Rattle.exponential.specs.Exp as Exp
 use Rattle.exponential.specs.Exp.{exp_of}
 use Rattle.exponential.specs.Expm1 as Expm1
@@ -20,8 +16,6 @@ use Rattle.logarithm.specs.Log as Log
 use Rattle.logarithm.specs.Log.{log_of}
 use Rattle.logarithm.specs.Log1p as Log1p
 use Rattle.logarithm.specs.Log1p.{log1p_of}
-use Rattle.root.specs.Sqrt.{sqrt_of}
-use Rattle.hyperbolic.specs.Expo2.{expo2_of}
 use Rattle.hyperbolic.specs.Sinh as Sinh
 use Rattle.hyperbolic.specs.Sinh.{sinh_of}
 use Rattle.hyperbolic.specs.Cosh as Cosh
@@ -35,11 +29,11 @@ use Rattle.inverse.specs.Acosh.{acosh_of}
 use Rattle.inverse.specs.Atanh as Atanh
 use Rattle.inverse.specs.Atanh.{atanh_of}
 
-one_fits : (f : Format) → T (fits f (one f))
+pub one_fits : (f : Format) → T (fits f (one f))
 one_fits lib.Ieee.binary32 = of_bits-fits lib.Ieee.binary32 0x3f800000
 one_fits binary64 = of_bits-fits binary64 0x3ff0000000000000
 
-minus_one_fits : (f : Format) → T (fits f (minus_one f))
+pub minus_one_fits : (f : Format) → T (fits f (minus_one f))
 minus_one_fits lib.Ieee.binary32 = of_bits-fits lib.Ieee.binary32 0xbf800000
 minus_one_fits binary64 = of_bits-fits binary64 0xbff0000000000000
 
@@ -55,7 +49,7 @@ not_a_number_fits : (f : Format) → T (fits f (not_a_number f))
 not_a_number_fits lib.Ieee.binary32 = of_bits-fits lib.Ieee.binary32 0x7fc00000
 not_a_number_fits binary64 = of_bits-fits binary64 0x7ff8000000000000
 
-zero_fits : (f : Format) → T (fits f (plus_zero f))
+pub zero_fits : (f : Format) → T (fits f (plus_zero f))
 zero_fits lib.Ieee.binary32 = of_bits-fits lib.Ieee.binary32 0
 zero_fits binary64 = of_bits-fits binary64 0
 
@@ -102,7 +96,7 @@ module _ (t : Log1p.Log1p) where
   log1p_fits (fin s (suc m) e) h = log1p_bands_ok (fin s (suc m) e) h
 
 -- at an f64
-log1p_of_lem : (x : Float) → T (fits binary64 x) → T (fits binary64 (log1p_of x))
+pub log1p_of_lem : (x : Float) → T (fits binary64 x) → T (fits binary64 (log1p_of x))
 unfolding log1p_of
 log1p_of_lem x h = log1p_fits Log1p.double x h
 
@@ -159,7 +153,7 @@ tanh_fits nan h = unfold tanh_of in h
 tanh_fits (inf true) h = unfold tanh_of in minus_one_fits binary64
 tanh_fits (inf false) h = unfold tanh_of in one_fits binary64
 tanh_fits (fin s zero e) h = unfold tanh_of in h
-tanh_fits (fin s (suc m) e) h = let k = signed_ok Tanh.size_of (fin s (suc m) e) (tanh_size_ok (float_with_sign false (fin s (suc m) e)) (mag_fits binary64 (fin s (suc m) e) h)) in unfold tanh_of in k
+tanh_fits (fin s (suc m) e) h = unfold tanh_of in signed_ok Tanh.size_of _ (tanh_size_ok _ (mag_fits binary64 _ h))
 
 -- ---- their inverses
 asinh_size_ok : (y : Float) → T (fits binary64 y) → T (fits binary64 (Asinh.size_of y))
@@ -169,7 +163,7 @@ pub asinh_fits : (x : Float) → T (fits binary64 x) → T (fits binary64 (asinh
 asinh_fits nan h = unfold asinh_of in h
 asinh_fits (inf s) h = unfold asinh_of in h
 asinh_fits (fin s zero e) h = unfold asinh_of in h
-asinh_fits (fin s (suc m) e) h = let k = signed_ok Asinh.size_of (fin s (suc m) e) (asinh_size_ok (float_with_sign false (fin s (suc m) e)) (mag_fits binary64 (fin s (suc m) e) h)) in unfold asinh_of in k
+asinh_fits (fin s (suc m) e) h = unfold asinh_of in signed_ok Asinh.size_of _ (asinh_size_ok _ (mag_fits binary64 _ h))
 
 acosh_tests_ok : (x : Float) → T (fits binary64 (Acosh.tests_of x))
 acosh_tests_ok x = search (fitting, log1p_of_lem, log_fits)
@@ -187,4 +181,4 @@ pub atanh_fits : (x : Float) → T (fits binary64 x) → T (fits binary64 (atanh
 atanh_fits nan h = unfold atanh_of in h
 atanh_fits (inf s) h = unfold atanh_of in nan-fits binary64
 atanh_fits (fin s zero e) h = unfold atanh_of in h
-atanh_fits (fin s (suc m) e) h = let k = signed_ok Atanh.size_of (fin s (suc m) e) (atanh_size_ok (float_with_sign false (fin s (suc m) e)) (mag_fits binary64 (fin s (suc m) e) h)) in unfold atanh_of in k
+atanh_fits (fin s (suc m) e) h = unfold atanh_of in signed_ok Atanh.size_of _ (atanh_size_ok _ (mag_fits binary64 _ h))
