@@ -1,7 +1,10 @@
 use Rattle.std.proofs.Common.{rules}
 use Rattle.std.specs.Float.{binary64}
-use Rattle.scale.specs.Laws.{scaling_sound}
+use Rattle.scale.specs.Laws.{scaled_is_number, scaling_all}
 use Rattle.scale.proofs.ScaleConversion.back.Goals as goal
 
 pub returns-clause-within : goal.returns-clause-within
-returns-clause-within c = let within = (scaling_sound binary64 c.args.self.now.exponent).back_number c.args.x in search rules
+returns-clause-within c =
+    let all = scaling_all binary64 c.args.self.now.exponent in
+    let number = scaled_is_number binary64 in
+    search rules
