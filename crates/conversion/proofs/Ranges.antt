@@ -2,8 +2,9 @@
 -- fits and lies between the ends, that back of what lies there is a number, and, if it is odd, that both
 -- functions turn with the sign. Assumes nothing.
 use Rattle.std.proofs.Common.{◌≡◌, Bool, true, false, not, ◌&&◌, T, sym, refl, ap, ◌∙◌, subst}
-use lib.Ieee.{Float, Format, binary32, binary64, nan, inf, fin, neg, le, is_nan, fits, of_bits}
+use lib.Ieee.{Float, Format, binary32, binary64, inf, neg, le, is_nan, fits, of_bits}
 use Rattle.numeric.proofs.Rounding.{and_l, and_r, and_i}
+use Rattle.numeric.proofs.Numbers.{inf_le}
 use Rattle.numeric.proofs.Order.{le_inf, le_self, number_above}
 use Rattle.numeric.proofs.Tests.{is_on, on}
 use Rattle.kinds.specs.Floats.{floats}
@@ -13,13 +14,6 @@ use Rattle.conversion.specs.FloatRules.{minus_infinity, infinity, everywhere, up
 -- a number of the format
 abbrev pub Number : Format → Float → Type 0
 Number f x = T (fits f x) × T (not (is_nan x))
-
-pub inf_le : (x : Float) → T (not (is_nan x)) → T (le (inf true) x)
-unfolding is_nan le
-inf_le nan h = h
-inf_le (inf true) h = tt
-inf_le (inf false) h = tt
-inf_le (fin s m e) h = tt
 
 inf_number : (f : Format) (s : Bool) → Number f (inf s)
 unfolding fits is_nan

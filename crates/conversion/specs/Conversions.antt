@@ -4,6 +4,7 @@ use Rattle.refusals.specs.Refusals.{Told}
 use Rattle.kinds.specs.Kinds.{Meaning}
 use Rattle.conversion.specs.Refusals.{not_a_number, outside}
 use Rattle.conversion.specs.declared.refusal.Refusal.{Refusal}
+use Rattle.conversion.specs.declared.refusal.Refusal.TheVariants.{NotANumber, OutsideBackRange}
 
 -- an answer, where there is one, passes this test
 abbrev pub Gives : {K : Type 0} → (K → Bool) → Result K Refusal → Type 0
@@ -17,10 +18,18 @@ pub record Rule (K : Type 0) : Type 0 where
   pub low : K
   pub high : K
 
+-- the figure itself, where it is a number
+abbrev pub numbered : {K : Type 0} → Meaning K → K → Result K Refusal
+numbered k x = cond (k.number x) (Ok x) (Err NotANumber)
+
 module _ {K : Type 0} (k : Meaning K) (c : Rule K) where
   -- the back range: the numbers from the low end to the high end, both included as numbers
   abbrev pub in_range : K → Bool
   in_range x = k.number x && (k.at_most c.low x && k.at_most x c.high)
+
+  -- the figure itself, where it lies in the back range
+  abbrev pub ranged : K → Result K Refusal
+  ranged x = cond (in_range x) (Ok x) (Err OutsideBackRange)
 
   -- on takes exactly the numbers
   abbrev pub on_answer : K → Result K Told

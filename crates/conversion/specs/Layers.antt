@@ -1,11 +1,8 @@
--- What a full conversion gives back, and what a flip and a chain keep. Assumes nothing.
-use Rattle.std.specs.Prelude.{◌≡◌, Bool, true, false, cond, ◌&&◌, Ok, Err, Result, refl}
+-- What a flip and a chain keep. Assumes nothing.
+use Rattle.std.specs.Prelude.{◌≡◌, Bool, true, false, ◌&&◌, refl}
 use Rattle.std.proofs.Common.{ap, ◌∙◌}
 use Rattle.kinds.specs.Kinds.{Meaning}
-use Rattle.conversion.specs.declared.refusal.Refusal.{Refusal}
-use Rattle.conversion.specs.Refusals.{answered, outside}
-use Rattle.conversion.specs.Answering.{gives}
-use Rattle.conversion.specs.Conversions.{Rule, Gives, in_range, back_answer, back_number_answer, Sound, AllNumbers, Mirrored, flipped, chained}
+use Rattle.conversion.specs.Conversions.{Rule, in_range, Sound, AllNumbers, Mirrored, flipped, chained}
 
 and_left : (a b : Bool) → (a && b) ≡ true → a ≡ true
 and_left true b h = refl
@@ -19,13 +16,6 @@ module _ {K : Type 0} (k : Meaning K) where
   -- every number is in the back range of a full conversion
   in_full : (c : Rule K) → AllNumbers k c → (x : K) → k.number x ≡ true → in_range k c x ≡ true
   in_full c all x n = all x ∙ n
-
-  pub full_back : (c : Rule K) → AllNumbers k c → (x : K) (r : Result K Refusal) → answered r ≡ back_answer k c x → answered r ≡ back_number_answer k c x
-  full_back c all x r e = e ∙ ap (λ (b : Bool). cond b (Ok (c.back x)) (Err outside)) (all x)
-
-  -- the back of a full conversion lies in its back range, as every number does
-  pub full_gives : (c : Rule K) → Sound k c → AllNumbers k c → (x : K) (r : Result K Refusal) → answered r ≡ back_answer k c x → Gives (in_range k c) r
-  full_gives c s all x r e = gives (in_range k c) (in_range k c x) (c.back x) outside r e (λ i. in_full c all (c.back x) (s.back_number x i))
 
   pub flip_sound : (c : Rule K) → Sound k c → AllNumbers k c → Sound k (flipped c)
   flip_sound c s all = record {

@@ -2,4 +2,3 @@ pub mod Refusals
 pub mod Conversions
 pub mod FloatRules
 pub mod Layers
-pub mod Answering

@@ -27,9 +27,13 @@ told (ScaleOutOfBounds exponent) = out_of_bounds exponent
 abbrev pub answered : {A : Type 0} → Result A Refusal → Result A Told
 answered r = Refusals.answered told r
 
--- the same answer, where whatever was refused is refused as an on does, or as a back does
+-- the same answer, where whatever was refused is refused as this
+abbrev pub refused_as : {A : Type 0} → Told → Result A Refusal → Result A Told
+refused_as t r = result_map_both (λ a. a) (λ _. t) r
+
+-- refused as an on does, or as a back does
 abbrev pub on_refused : {A : Type 0} → Result A Refusal → Result A Told
-on_refused r = result_map_both (λ a. a) (λ _. not_a_number) r
+on_refused r = refused_as not_a_number r
 
 abbrev pub back_refused : {A : Type 0} → Result A Refusal → Result A Told
-back_refused r = result_map_both (λ a. a) (λ _. outside) r
+back_refused r = refused_as outside r

@@ -1,9 +1,16 @@
 ghost use Rattle.std.specs.Prelude.{◌≡◌};
 ghost use Rattle.conversion.specs.Refusals.{answered};
-ghost use Rattle.conversion.specs.Conversions.{Rule, Sound, AllNumbers, Mirrored, on_answer, back_answer, back_number_answer, in_range, Gives};
+ghost use Rattle.conversion.specs.Conversions.{Rule, Sound, AllNumbers, Mirrored, on_answer, back_answer, back_number_answer, in_range, numbered, ranged, Gives};
 
 use crate::refusal::Refusal;
 use kinds::kind::Kind;
+
+// The figure, if it is a number: what every on takes.
+pub fn as_number<K: Kind>(x: K) -> Result<K, Refusal>
+    ensures { result ≡ numbered K.Kind.means x }
+{
+    x.is_number().then_some(x).ok_or(Refusal::NotANumber)
+}
 
 // A conversion of figures of one kind. `on` takes exactly the numbers, and `back` exactly the back
 // range, which is the numbers from `low` to `high`, both included.
@@ -33,6 +40,15 @@ pub trait Conversion {
         x.is_number() && self.low().at_most(x) && x.at_most(self.high())
     }
 
+    // The figure, if it lies in the back range: what its back takes.
+    fn in_back_range(&self, x: Self::Figure) -> Result<Self::Figure, Refusal>
+        ensures { result ≡ ranged Self.Figure.Kind.means (rule self.now) x }
+    {
+        self.takes_back(x)
+            .then_some(x)
+            .ok_or(Refusal::OutsideBackRange)
+    }
+
     ghost sound: { (c : Self) → Sound Self.Figure.Kind.means (rule c) };
 }
 
@@ -43,11 +59,7 @@ pub trait Full: Conversion {
         ensures answer { answered result ≡ back_number_answer Self.Figure.Kind.means (Self.Conversion.rule self.now) x }
         ensures within { Gives (in_range Self.Figure.Kind.means (Self.Conversion.rule self.now)) result }
     {
-        if x.is_number() {
-            self.back(x)
-        } else {
-            Err(Refusal::OutsideBackRange)
-        }
+        self.back(x)
     }
 
     ghost all: { (c : Self) → AllNumbers Self.Figure.Kind.means (Self.Conversion.rule c) };

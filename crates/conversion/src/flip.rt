@@ -3,7 +3,7 @@ ghost use Rattle.conversion.specs.Layers.{flip_sound, flip_mirrored};
 ghost use Rattle.std.proofs.Common.{rules};
 
 use crate::conversion::{Conversion, Full, Odd};
-use crate::refusal::{Refusal, as_back, as_on};
+use crate::refusal::{Refusal, refused_as};
 
 // A flip: on and back of a full conversion, exchanged. It is full, and odd if the one below is.
 #[derive(Clone, Copy)]
@@ -27,11 +27,11 @@ impl<C: Full> Conversion for Flip<C> {
     }
 
     fn on(&self, x: C::Figure) -> Result<C::Figure, Refusal> {
-        as_on(self.inner.back_number(x))
+        refused_as(self.inner.back_number(x), Refusal::NotANumber)
     }
 
     fn back(&self, x: C::Figure) -> Result<C::Figure, Refusal> {
-        as_back(self.inner.on(x))
+        refused_as(self.inner.on(x), Refusal::OutsideBackRange)
     }
 }
 

@@ -1,5 +1,5 @@
 ghost use Rattle.std.specs.Prelude.{◌≡◌};
-ghost use Rattle.conversion.specs.Refusals.{told, answered, on_refused, back_refused};
+ghost use Rattle.conversion.specs.Refusals.{told, answered, refused_as};
 
 use refusals::Numbered;
 
@@ -26,22 +26,9 @@ impl Numbered for Refusal {
     }
 }
 
-// The answer of an on, where a function inside refused in its own words.
-pub fn as_on<K>(answer: Result<K, Refusal>) -> Result<K, Refusal>
-    ensures { answered result ≡ on_refused answer }
+// The answer of a layer, where a function inside refused in its own words.
+pub fn refused_as<K>(answer: Result<K, Refusal>, refusal: Refusal) -> Result<K, Refusal>
+    ensures { answered result ≡ refused_as (told refusal) answer }
 {
-    match answer {
-        Ok(x) => Ok(x),
-        Err(_) => Err(Refusal::NotANumber),
-    }
-}
-
-// The answer of a back, where a function inside refused in its own words.
-pub fn as_back<K>(answer: Result<K, Refusal>) -> Result<K, Refusal>
-    ensures { answered result ≡ back_refused answer }
-{
-    match answer {
-        Ok(x) => Ok(x),
-        Err(_) => Err(Refusal::OutsideBackRange),
-    }
+    answer.map_err(|_| refusal)
 }

@@ -3,7 +3,7 @@ ghost use Rattle.kinds.specs.Cents.{cents, limit};
 ghost use Rattle.conversion.specs.Conversions.{reversed};
 ghost use Rattle.std.proofs.Common.{rules};
 
-use crate::conversion::{Conversion, Full, Odd};
+use crate::conversion::{Conversion, Full, Odd, as_number};
 use crate::refusal::Refusal;
 use kinds::kind::Kind;
 
@@ -27,19 +27,11 @@ impl Conversion for Reversal {
     }
 
     fn on(&self, x: i64) -> Result<i64, Refusal> {
-        if x.is_number() {
-            Ok(x.turned())
-        } else {
-            Err(Refusal::NotANumber)
-        }
+        Ok(as_number(x)?.turned())
     }
 
     fn back(&self, x: i64) -> Result<i64, Refusal> {
-        if self.takes_back(x) {
-            Ok(x.turned())
-        } else {
-            Err(Refusal::OutsideBackRange)
-        }
+        Ok(self.in_back_range(x)?.turned())
     }
 }
 

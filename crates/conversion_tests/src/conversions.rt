@@ -3,7 +3,7 @@ use crate::same::refused;
 use conversion::chain::Chain;
 use conversion::conversion::{Conversion, Full};
 use conversion::flip::Flip;
-use conversion::refusal::{Refusal, as_back, as_on};
+use conversion::refusal::{Refusal, refused_as};
 use conversion::reversal::Reversal;
 use conversion::trip::round_trip;
 use kinds::cents::LIMIT;
@@ -67,8 +67,8 @@ fn chains(rt: HostRuntime) -> Result<(), Fail> {
 fn refused_otherwise(rt: HostRuntime) -> Result<(), Fail> {
     let answer: Result<i64, Refusal> = Err(Refusal::ScaleOutOfBounds(65));
     refused(&rt, answer, 13)?;
-    refused(&rt, as_on(answer), 4)?;
-    refused(&rt, as_back(answer), 7)?;
-    assert_eq!(rt; as_on::<i64>(Ok(3))?, 3);
+    refused(&rt, refused_as(answer, Refusal::NotANumber), 4)?;
+    refused(&rt, refused_as(answer, Refusal::OutsideBackRange), 7)?;
+    assert_eq!(rt; refused_as::<i64>(Ok(3), Refusal::NotANumber)?, 3);
     Ok(())
 }

@@ -1,7 +1,9 @@
 use conversion::refusal::Refusal;
 use kinds::count::Count;
 use refusals::Numbered;
-use std::num::{f64_from_bits_with_nan, f64_to_bits_with_nan};
+use std::num::{
+    f32_from_bits_with_nan, f32_to_bits_with_nan, f64_from_bits_with_nan, f64_to_bits_with_nan,
+};
 use std::process::Abort;
 use std::test::Fail;
 
@@ -9,9 +11,30 @@ pub(crate) fn float(bits: u64) -> f64 {
     f64_from_bits_with_nan(bits)
 }
 
+pub(crate) fn single(bits: u32) -> f32 {
+    f32_from_bits_with_nan(bits)
+}
+
+// A float, seen as its bits.
+pub(crate) trait Bits {
+    fn bits(self) -> u64;
+}
+
+impl Bits for f64 {
+    fn bits(self) -> u64 {
+        f64_to_bits_with_nan(self)
+    }
+}
+
+impl Bits for f32 {
+    fn bits(self) -> u64 {
+        u64::from(f32_to_bits_with_nan(self))
+    }
+}
+
 // Whether a result has the bits of a value, so that -0 is not 0.
-pub(crate) fn same(rt: &impl Abort, res: f64, expected: f64) {
-    assert_eq!(rt; f64_to_bits_with_nan(res), f64_to_bits_with_nan(expected));
+pub(crate) fn same<F: Bits>(rt: &impl Abort, res: F, expected: F) {
+    assert_eq!(rt; res.bits(), expected.bits());
 }
 
 // Whether the answer is a refusal with this number.
@@ -20,18 +43,11 @@ pub(crate) fn refused<T: Drop>(
     answer: Result<T, Refusal>,
     number: u8,
 ) -> Result<(), Fail> {
-    match answer {
-        Ok(_) => Err(Fail::new("not refused")),
-        Err(refusal) => {
-            assert_eq!(rt; refusal.number(), number);
-            Ok(())
-        },
-    }
+    let refusal = answer.err().ok_or_else(|| Fail::new("not refused"))?;
+    assert_eq!(rt; refusal.number(), number);
+    Ok(())
 }
 
 pub(crate) fn count(n: usize) -> Result<Count, Fail> {
-    match Count::new(n) {
-        Some(count) => Ok(count),
-        None => Err(Fail::new("no count")),
-    }
+    Count::new(n).ok_or_else(|| Fail::new("no count"))
 }

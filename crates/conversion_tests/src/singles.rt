@@ -1,12 +1,6 @@
-use crate::same::count;
+use crate::same::{count, same, single};
 use kinds::kind::Kind;
-use std::num::f32_to_bits_with_nan;
-use std::process::Abort;
 use std::test::Fail;
-
-fn same(rt: &impl Abort, res: f32, bits: u32) {
-    assert_eq!(rt; f32_to_bits_with_nan(res), bits);
-}
 
 #[test]
 fn numbers(rt: HostRuntime) {
@@ -18,10 +12,10 @@ fn numbers(rt: HostRuntime) {
 
 #[test]
 fn sums_and_quotients(rt: HostRuntime) -> Result<(), Fail> {
-    same(&rt, 0.0f32.turned(), 0x8000_0000);
-    same(&rt, 1.0f32.plus(-1.0), 0);
-    same(&rt, f32::MAX.plus(f32::MAX), 0x7f80_0000);
-    same(&rt, (-1.0f32).over(count(3)?), 0xbeaa_aaab);
+    same(&rt, 0.0f32.turned(), single(0x8000_0000));
+    same(&rt, 1.0f32.plus(-1.0), single(0));
+    same(&rt, f32::MAX.plus(f32::MAX), single(0x7f80_0000));
+    same(&rt, (-1.0f32).over(count(3)?), single(0xbeaa_aaab));
     Ok(())
 }
 

@@ -2,13 +2,11 @@
 use Rattle.std.specs.Prelude.{◌≡◌, T, refl, Float}
 use Rattle.std.specs.Float.{binary32, binary64}
 use Rattle.std.specs.Float.Ieee.{fits, neg, le, of_bits, is_nan}
-use Rattle.std.specs.Float.Ieee.Bits.{of_bits-fits}
 use Rattle.float.specs.Constants.{one, minus_one, plus_zero}
 use Rattle.exponential.specs.Exp.{exp_of}
 use Rattle.exponential.specs.Expm1 as Expm1
 use Rattle.exponential.specs.Expm1.{expm1_of}
 use Rattle.logarithm.specs.Log.{log_of}
-use Rattle.logarithm.specs.Log1p as Log1p
 use Rattle.logarithm.specs.Log1p.{log1p_of}
 use Rattle.hyperbolic.specs.Sinh.{sinh_of}
 use Rattle.hyperbolic.specs.Cosh.{cosh_of}
@@ -36,20 +34,20 @@ use Rattle.kinds.specs.Floats.{floats}
 use Rattle.conversion.specs.Conversions.{Sound, AllNumbers, Mirrored}
 use Rattle.conversion.specs.FloatRules.{between, upward, everywhere}
 use Rattle.conversion.proofs.Ranges.{Number, between_sound, between_mirrored, upward_sound, everywhere_sound, everywhere_all, everywhere_mirrored}
-use Rattle.function_conversions.specs.Fitting.{exp_fits, log_fits, expm1_fits, log1p_fits, sinh_fits, cosh_fits, tanh_fits, asinh_fits, acosh_fits, atanh_fits}
+use Rattle.function_conversions.specs.Fitting.{one_fits, minus_one_fits, zero_fits, log1p_of_lem, exp_fits, log_fits, expm1_fits, log1p_fits, sinh_fits, cosh_fits, tanh_fits, asinh_fits, acosh_fits, atanh_fits}
 
 -- the ends are numbers
 one_number : Number binary64 (one binary64)
-one_number = (of_bits-fits binary64 0x3ff0000000000000, unfold of_bits is_nan in tt)
+one_number = (one_fits binary64, unfold of_bits is_nan in tt)
 
 minus_one_number : Number binary64 (minus_one binary64)
-minus_one_number = (of_bits-fits binary64 0xbff0000000000000, unfold of_bits is_nan in tt)
+minus_one_number = (minus_one_fits binary64, unfold of_bits is_nan in tt)
 
 minus_one_number_32 : Number binary32 (minus_one binary32)
-minus_one_number_32 = (of_bits-fits binary32 0xbf800000, unfold of_bits is_nan in tt)
+minus_one_number_32 = (minus_one_fits binary32, unfold of_bits is_nan in tt)
 
 zero_number : Number binary64 (plus_zero binary64)
-zero_number = (of_bits-fits binary64 0, unfold of_bits is_nan in tt)
+zero_number = (zero_fits binary64, unfold of_bits is_nan in tt)
 
 ends_rise : T (le (minus_one binary64) (one binary64))
 unfolding of_bits le
@@ -63,10 +61,6 @@ ends_turned = refl
 expm1_ok : (x : Float) → T (fits binary64 x) → T (fits binary64 (expm1_of x))
 unfolding expm1_of
 expm1_ok x h = expm1_fits Expm1.double x h
-
-log1p_ok : (x : Float) → T (fits binary64 x) → T (fits binary64 (log1p_of x))
-unfolding log1p_of
-log1p_ok x h = log1p_fits Log1p.double x h
 
 expm1f_ok : (x : Float) → T (fits binary32 x) → T (fits binary32 (expm1f_of x))
 unfolding expm1f_of
@@ -82,7 +76,7 @@ exp_sound = upward_sound binary64 exp_of log_of (plus_zero binary64) zero_number
 
 pub expm1_sound : Sound (floats binary64) (upward binary64 expm1_of log1p_of (minus_one binary64))
 expm1_sound =
-    upward_sound binary64 expm1_of log1p_of (minus_one binary64) minus_one_number (λ x n. (expm1_ok x n.0, (expm1_above x n).1)) (λ x n l. (log1p_ok x n.0, log1p_number x n.0 l))
+    upward_sound binary64 expm1_of log1p_of (minus_one binary64) minus_one_number (λ x n. (expm1_ok x n.0, (expm1_above x n).1)) (λ x n l. (log1p_of_lem x n.0, log1p_number x n.0 l))
 
 pub expm1f_sound : Sound (floats binary32) (upward binary32 expm1f_of log1pf_of (minus_one binary32))
 expm1f_sound =

@@ -5,11 +5,10 @@ ghost use Rattle.logarithm.specs.Log1p.{log1p_of};
 ghost use Rattle.conversion.specs.FloatRules.{upward};
 ghost use Rattle.function_conversions.specs.Laws.{expm1_sound};
 
+use crate::ends::MINUS_ONE;
 use crate::pair::Pair;
 use exponential::expm1::expm1;
 use logarithm::log1p::log1p;
-
-const MINUS_ONE: f64 = -1.0;
 
 // expm1, and log1p back from -1 on.
 #[derive(Clone, Copy)]

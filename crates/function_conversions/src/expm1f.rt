@@ -5,13 +5,13 @@ ghost use Rattle.single.specs.Log1pf.{log1pf_of};
 ghost use Rattle.conversion.specs.FloatRules.{upward};
 ghost use Rattle.function_conversions.specs.Laws.{expm1f_sound};
 
+use crate::ends::MINUS_ONE_F;
 use crate::pair::Pair;
 use single::expm1f::expm1f;
 use single::log1pf::log1pf;
 
-const MINUS_ONE: f32 = -1.0;
-
-// expm1f, and log1pf back from -1 on, over f32.
+// expm1f, and log1pf back from -1 on, over f32. Stays beside Expm1: of each of its lines the other has
+// another function or type, and one text would have to be given all of them.
 #[derive(Clone, Copy)]
 pub struct Expm1f;
 
@@ -23,7 +23,7 @@ impl Pair for Expm1f {
     ghost sound = { λ p. expm1f_sound };
 
     fn low(&self) -> f32 {
-        MINUS_ONE
+        MINUS_ONE_F
     }
 
     fn high(&self) -> f32 {

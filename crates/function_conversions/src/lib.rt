@@ -2,6 +2,7 @@
 #![tactic(auto)]
 
 pub mod cosh;
+mod ends;
 pub mod exp;
 pub mod expm1;
 pub mod expm1f;

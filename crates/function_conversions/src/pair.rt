@@ -1,7 +1,7 @@
 ghost use Rattle.std.specs.Prelude.{◌≡◌};
 ghost use Rattle.conversion.specs.Conversions.{Rule, Sound, AllNumbers, Mirrored};
 
-use conversion::conversion::{Conversion, Full, Odd};
+use conversion::conversion::{Conversion, Full, Odd, as_number};
 use conversion::refusal::Refusal;
 use kinds::kind::Kind;
 
@@ -60,19 +60,11 @@ impl<P: Pair> Conversion for By<P> {
     }
 
     fn on(&self, x: P::Figure) -> Result<P::Figure, Refusal> {
-        if x.is_number() {
-            Ok(self.pair.forward(x))
-        } else {
-            Err(Refusal::NotANumber)
-        }
+        Ok(self.pair.forward(as_number(x)?))
     }
 
     fn back(&self, x: P::Figure) -> Result<P::Figure, Refusal> {
-        if self.takes_back(x) {
-            Ok(self.pair.backward(x))
-        } else {
-            Err(Refusal::OutsideBackRange)
-        }
+        Ok(self.pair.backward(self.in_back_range(x)?))
     }
 }
 

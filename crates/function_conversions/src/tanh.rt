@@ -5,11 +5,10 @@ ghost use Rattle.inverse.specs.Atanh.{atanh_of};
 ghost use Rattle.conversion.specs.FloatRules.{between};
 ghost use Rattle.function_conversions.specs.Laws.{tanh_sound, tanh_mirrored};
 
+use crate::ends::MINUS_ONE;
 use crate::pair::{OddPair, Pair};
 use hyperbolic::tanh::tanh;
 use inverse::atanh::atanh;
-
-const MINUS_ONE: f64 = -1.0;
 
 // tanh, and atanh back from -1 to 1. It is odd.
 #[derive(Clone, Copy)]

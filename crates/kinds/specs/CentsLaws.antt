@@ -3,34 +3,22 @@ use Rattle.std.specs.Prelude.{◌≡◌, ℕ, zero, suc, ◌*◌, ◌^◌, ◌<�
 use Rattle.std.proofs.Common.{sym, ap, ◌∙◌, arith, div-le_self}
 use Rattle.std.proofs.Math.Nat.{zero-div}
 use Rattle.std.proofs.Math.IntN.{neg_ℤ-neg_ℤ, neg_ℤ-+ℤ}
-use Rattle.std.proofs.lemmas.Bool.Decides.{nat_tests}
 use Rattle.std.proofs.lemmas.Int.{ints}
 use Rattle.std.specs.Int.{saturate_to_bits}
 use Rattle.kinds.specs.Kinds.{Same, sum, Summable, Lawful}
 use Rattle.kinds.specs.Cents.{cents, within, turn, least, limit}
 
 within_neg : (n : ℕ) (z : ℤ) → within n (neg_ℤ z) ≡ within n z
-within_neg zero (pos zero) = refl
-within_neg zero (pos (suc a)) = grind (arith, nat_tests)
-within_neg zero (negsuc a) = grind (arith, nat_tests)
-within_neg (suc n) (pos zero) = grind (arith, nat_tests)
-within_neg (suc n) (pos (suc a)) = grind (arith, nat_tests)
-within_neg (suc n) (negsuc a) = grind (arith, nat_tests)
+within_neg n z = grind (arith, ints)
 
 not_least : (n : ℕ) (z : ℤ) → n < 2 ^ 63 → within n z ≡ true → (int_le z least && int_le least z) ≡ false
-not_least n (pos a) h w = refl
-not_least zero (negsuc a) h w = grind (arith, nat_tests)
-not_least (suc n) (negsuc a) h w = grind (arith, nat_tests)
+not_least n z h w = grind (arith, ints)
 
 turn_is : (n : ℕ) (z : ℤ) → n < 2 ^ 63 → within n z ≡ true → turn z ≡ neg_ℤ z
 turn_is n z h w = ap (λ (b : Bool). cond b z (neg_ℤ z)) (not_least n z h w)
 
 turn_number : (z : ℤ) → within limit (turn z) ≡ within limit z
-turn_number z = go (int_le z least && int_le least z)
-  where
-    go : (b : Bool) → within limit (cond b z (neg_ℤ z)) ≡ within limit z
-    go true = refl
-    go false = within_neg limit z
+turn_number z = grind (arith, ints)
 
 saturated_is : (n : ℕ) (z : ℤ) → n < 2 ^ 63 → within n z ≡ true → saturate_to_bits 63 z ≡ z
 saturated_is n z h w = grind (arith, ints)

@@ -17,3 +17,18 @@ floats f = record {
   plus = add f;
   over = λ x count. div f x (of_int f (pos count));
 }
+
+-- The same kind, of values that `to` takes to floats of the format and `of` back.
+abbrev pub floats_as : {K : Type 0} → Format → (K → Float) → (Float → K) → Meaning K
+floats_as f to of =
+    let k = floats f in
+    record {
+      number = λ x. k.number (to x);
+      infinite = λ x. k.infinite (to x);
+      nought = of k.nought;
+      turned = λ x. of (k.turned (to x));
+      at_most = λ x y. k.at_most (to x) (to y);
+      greater = λ x y. k.greater (to x) (to y);
+      plus = λ x y. of (k.plus (to x) (to y));
+      over = λ x count. of (k.over (to x) count);
+    }

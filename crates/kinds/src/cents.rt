@@ -14,7 +14,7 @@ impl Kind for i64 {
     ghost lawful = { cents_lawful };
 
     fn is_number(self) -> bool {
-        -LIMIT <= self && self <= LIMIT
+        (-LIMIT..=LIMIT).contains(&self)
     }
 
     fn is_infinite(self) -> bool {
@@ -27,7 +27,7 @@ impl Kind for i64 {
 
     // i64::MIN has no sign turn in an i64, and stays.
     fn turned(self) -> i64 {
-        if self == i64::MIN { self } else { -self }
+        self.checked_neg().unwrap_or(self)
     }
 
     fn at_most(self, other: i64) -> bool {
@@ -45,6 +45,6 @@ impl Kind for i64 {
 
     // The fraction is dropped.
     fn over(self, count: Count) -> i64 {
-        self / (count.get() as i64)
+        self / i64::from(count.get())
     }
 }

@@ -2,6 +2,9 @@ ghost use Rattle.std.specs.Prelude.{◌≡◌, ◌≤◌};
 ghost use Rattle.std.specs.Option.{option_map};
 ghost use Rattle.kinds.specs.Counts.{counted};
 
+// The greatest count.
+const MOST: u16 = 4096;
+
 // A count of figures, from 1 to 4,096: what a sum can be divided by.
 #[derive(Clone, Copy)]
 pub struct Count {
@@ -14,12 +17,10 @@ impl Count {
     pub fn new(value: usize) -> Option<Count>
         ensures { option_map (λ (c : Count). c.value) result ≡ counted value }
     {
-        if value < 1 || value > 4096 {
-            return None;
-        }
-        Some(Count {
-            value: value as u16,
-        })
+        let value = u16::try_from(value)
+            .ok()
+            .filter(|n| (1..=MOST).contains(n))?;
+        Some(Count { value })
     }
 
     pub fn get(self) -> u16

@@ -3,6 +3,5 @@
 
 pub mod cents;
 pub mod count;
-pub mod doubles;
+pub mod floats;
 pub mod kind;
-pub mod singles;

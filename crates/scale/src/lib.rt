@@ -8,9 +8,8 @@ ghost use Rattle.conversion.specs.Refusals.{told};
 ghost use Rattle.scale.specs.Scales.{allowed, made, scaling};
 ghost use Rattle.scale.specs.Laws.{scaling_sound, scaling_all, scaling_mirrored};
 
-use conversion::conversion::{Conversion, Full, Odd};
+use conversion::conversion::{Conversion, Full, Odd, as_number};
 use conversion::refusal::Refusal;
-use kinds::kind::Kind;
 use scaling::scalbn::scalbn;
 
 // The exponents of scales go from -BOUND to BOUND.
@@ -28,24 +27,11 @@ impl Scale {
     pub fn new(exponent: i32) -> Result<Scale, Refusal>
         ensures { result_map_both (λ (c : Scale). c.exponent) told result ≡ made exponent }
     {
-        if exponent < -BOUND || exponent > BOUND {
-            return Err(Refusal::ScaleOutOfBounds(exponent));
+        if (-BOUND..=BOUND).contains(&exponent) {
+            Ok(Scale { exponent })
+        } else {
+            Err(Refusal::ScaleOutOfBounds(exponent))
         }
-        Ok(Scale { exponent })
-    }
-
-    // x times 2^exponent.
-    fn raised(&self, x: f64) -> f64
-        ensures { result ≡ (scaling binary64 self.now.exponent).on x }
-    {
-        scalbn(x, self.exponent)
-    }
-
-    // x times 2^-exponent.
-    fn lowered(&self, x: f64) -> f64
-        ensures { result ≡ (scaling binary64 self.now.exponent).back x }
-    {
-        scalbn(x, -self.exponent)
     }
 }
 
@@ -65,19 +51,11 @@ impl Conversion for Scale {
     }
 
     fn on(&self, x: f64) -> Result<f64, Refusal> {
-        if x.is_number() {
-            Ok(self.raised(x))
-        } else {
-            Err(Refusal::NotANumber)
-        }
+        Ok(scalbn(as_number(x)?, self.exponent))
     }
 
     fn back(&self, x: f64) -> Result<f64, Refusal> {
-        if self.takes_back(x) {
-            Ok(self.lowered(x))
-        } else {
-            Err(Refusal::OutsideBackRange)
-        }
+        Ok(scalbn(self.in_back_range(x)?, -self.exponent))
     }
 }
 
