@@ -1,6 +1,7 @@
 //! The twelve functions for programs in C and Rust, which link them as a static library.
 //!
-//! Each symbol is the function's name behind `wumelisorn_`, so that none is a name of the C library.
+//! Each symbol is the function's name behind `wumelisorn_`, so that none is a name of the C library. They stay
+//! twelve functions: C calls each by its name.
 #![tactic(auto)]
 
 ghost use Rattle.std.specs.Prelude.{◌≡◌};

@@ -39,6 +39,7 @@ pub trait Width: Float {
     ghost literals: { Literals Self.format };
 }
 
+// The two stay apart: each is made of the library's functions for its own type and for its patterns.
 impl Width for f64 {
     ghost literals = { literals binary64 };
 

@@ -20,6 +20,8 @@ const LG: [f32; 4] = [
     f32::from_bits(0x3e78_9e26),
 ];
 
+// Stays with its width, as the exponent and the significand do: the patterns are of two types, and one text
+// for both would have to cast them in every line.
 // The pattern without the sign, moved so that the exponent steps near √½ and no longer at 1.
 fn moved(b: u32) -> u32
     ensures { result ≡ moved_of Kernel.single b }

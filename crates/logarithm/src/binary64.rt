@@ -23,6 +23,8 @@ const LG: [f64; 7] = [
     f64::from_bits(0x3FC2_F112_DF3E_5244),
 ];
 
+// Stays with its width, as the exponent and the significand do: the patterns are of two types, and one text
+// for both would have to cast them in every line.
 // The pattern without the sign, moved so that the exponent steps near √½ and no longer at 1.
 fn moved(b: u64) -> u64
     ensures { result ≡ moved_of Kernel.double b }

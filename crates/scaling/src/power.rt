@@ -24,6 +24,7 @@ pub trait Power: Width {
         ensures { negsuc (emax Self.format - 2) ≤ℤ n → n ≤ℤ pos (emax Self.format) → Self.float result ≡ fin false 1 n };
 }
 
+// The two stay apart: each has its numbers, and its own type of patterns.
 impl Power for f64 {
     fn most() -> i32 {
         1023
