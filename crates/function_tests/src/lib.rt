@@ -5,6 +5,8 @@
 #[cfg(test)]
 mod bands;
 #[cfg(test)]
+mod bits;
+#[cfg(test)]
 mod exponentials;
 #[cfg(test)]
 mod hyperbolics;
@@ -14,8 +16,6 @@ mod inverses;
 mod known;
 #[cfg(test)]
 mod logarithms;
-#[cfg(test)]
-mod same;
 #[cfg(test)]
 mod scalings;
 #[cfg(test)]
