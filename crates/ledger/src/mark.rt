@@ -10,36 +10,36 @@ pub enum Mark {
     Turned,
 }
 
-impl Mark {
-    // How a mark byte is read: a byte that is no mark is free.
-    pub fn of(byte: u8) -> Mark
-        ensures { result ≡ mark_of byte }
-    {
+// How a mark byte is read: a byte that is no mark is free.
+impl From<u8> for Mark {
+    ghost from_gives = { λ byte mark. mark ≡ mark_of byte };
+
+    fn from(byte: u8) -> Mark {
         match byte {
             1 => Mark::Plain,
             2 => Mark::Turned,
             _ => Mark::Free,
         }
     }
+}
 
-    // How a mark is written.
-    pub fn byte(self) -> u8
-        ensures { result ≡ byte_of self }
-    {
-        match self {
+// How a mark is written.
+impl From<Mark> for u8 {
+    ghost from_gives = { λ mark byte. byte ≡ byte_of mark };
+
+    fn from(mark: Mark) -> u8 {
+        match mark {
             Mark::Free => 0,
             Mark::Plain => 1,
             Mark::Turned => 2,
         }
     }
+}
 
+impl Mark {
     pub fn is_held(self) -> bool
         ensures { result ≡ held self }
     {
-        match self {
-            Mark::Free => false,
-            Mark::Plain => true,
-            Mark::Turned => true,
-        }
+        self != Mark::Free
     }
 }
