@@ -6,8 +6,8 @@ use Rattle.kinds.specs.Kinds.{Meaning}
 use Rattle.conversion.specs.Conversions.{Rule}
 use Rattle.ledger.specs.declared.mark.Mark.{Mark}
 use Rattle.ledger.specs.declared.mark.Mark.TheVariants.{Free, Plain, Turned}
-use Rattle.ledger.specs.Marks.{mark_of, byte_of, is_plain, is_turned}
-use Rattle.ledger.specs.Refusals.{memory}
+use Rattle.ledger.specs.Marks.{mark_of, byte_of, held, is_plain, is_turned}
+use Rattle.ledger.specs.Refusals.{memory, no_such_row, is_free, wrong_way}
 use Rattle.ledger.specs.Rules.{Row, refuse, and_then, enter_rule, clear_rule, read_rule, on_rule, back_rule, close_rule, on_all_rule, total_rule, mean_rule, exceeds_rule}
 use Rattle.kinds.specs.declared.count.Count.{Count}
 use Rattle.sheet.specs.declared.heads.OpenSheet.{OpenSheet}
@@ -42,6 +42,17 @@ turned_bytes (m ∷ ms) = cond (is_turned (mark_of m)) 1 0 + turned_bytes ms
 module _ {K : Type 0} (k : Meaning K) (ms : List ℕ) (xs : List K) where
   abbrev pub row_at : ℕ → Row K
   row_at i = record { mark = mark_of (slice_index ms i); figure = slice_index_or xs i k.nought }
+
+-- whether two marks are one
+abbrev pub same_mark : Mark → Mark → Bool
+same_mark Free m = not (held m)
+same_mark Plain m = is_plain m
+same_mark Turned m = is_turned m
+
+-- the figure of the row i of n, if it has a mark
+abbrev pub marked_rule : {K : Type 0} → ℕ → ℕ → Row K → Mark → Result K Told
+marked_rule n i r wanted =
+    refuse (nat_le n i) (no_such_row i) (refuse (not (held r.mark)) (is_free i) (refuse (not (same_mark r.mark wanted)) (wrong_way i) (Ok r.figure)))
 
 module _ {K : Type 0} (ms : List ℕ) (xs : List K) where
   -- the row i gets this mark and the figure; or, refused, all stays
