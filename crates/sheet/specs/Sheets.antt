@@ -1,5 +1,5 @@
 -- What each call on a sheet answers, and what it leaves in the two slices, whatever they hold.
-use Rattle.std.specs.Prelude.{ℕ, ◌+◌, Bool, cond, not, ◌&&◌, List, [], ◌∷◌, map, length, replicate, Ok, Err, Result, ◌==◌, nat_le, slice_index, slice_index_or, slice_set}
+use Rattle.std.specs.Prelude.{ℕ, Bool, cond, not, ◌&&◌, List, [], ◌∷◌, map, length, replicate, Ok, Err, Result, ◌==◌, nat_le, slice_index, slice_index_or, slice_set}
 use Rattle.std.specs.Result.{result_map_both}
 use Rattle.refusals.specs.Refusals.{Told}
 use Rattle.kinds.specs.Kinds.{Meaning}
@@ -33,11 +33,6 @@ abbrev pub rows_of : {K : Type 0} → List ℕ → List K → List (Row K)
 rows_of [] xs = []
 rows_of (m ∷ ms) [] = []
 rows_of (m ∷ ms) (x ∷ xs) = record { mark = mark_of m; figure = x } ∷ rows_of ms xs
-
--- how many mark bytes say turned
-abbrev pub turned_bytes : List ℕ → ℕ
-turned_bytes [] = 0
-turned_bytes (m ∷ ms) = cond (is_turned (mark_of m)) 1 0 + turned_bytes ms
 
 module _ {K : Type 0} (k : Meaning K) (ms : List ℕ) (xs : List K) where
   abbrev pub row_at : ℕ → Row K

@@ -1,5 +1,5 @@
 //! The calls on every row, over the slices of one sheet.
-ghost use Rattle.std.specs.Prelude.{◌≡◌, true, map, position, length, replicate, if◌then◌else◌, Ok};
+ghost use Rattle.std.specs.Prelude.{◌≡◌, true, map, position, length, if◌then◌else◌, Ok};
 ghost use Rattle.ledger.specs.Marks.{is_plain, mark_of};
 ghost use Rattle.ledger.specs.Rules.{close_rule, on_all_rule, convertible};
 ghost use Rattle.sheet.specs.Refusals.{answered};
@@ -10,15 +10,6 @@ use crate::rows::Rows;
 use conversion::conversion::Conversion;
 use kinds::kind::Kind;
 use ledger::mark::Mark;
-
-// Every element becomes `x`.
-pub(crate) fn fill<T: Copy>(slice: &mut [T], x: T)
-    ensures { slice.new ≡ replicate (length slice.old) x }
-{
-    for element in slice.iter_mut() {
-        *element = x;
-    }
-}
 
 impl<K> Rows<'_, '_, K> {
     // The first plain row.
@@ -75,21 +66,20 @@ fn turned_row<C: Conversion>(c: &C, byte: u8, x: C::Figure) -> (u8, C::Figure)
         return (byte, x);
     }
     match c.on(x) {
-        Ok(y) => (u8::from(Mark::Turned), y),
+        Ok(y) => (Mark::Turned.into(), y),
         Err(_) => (byte, x),
     }
 }
 
 // Turns every plain row.
+// Stays indexed at the figures: after a loop over two `iter_mut` in a `zip`, a proof knows no element of either slice.
 pub(crate) fn turn_all<C: Conversion>(marks: &mut [u8], figures: &mut [C::Figure], c: &C)
     requires lengths { length figures.old ≡ length marks.old }
     requires convertible { on_all_rule C.Figure.Kind.means (C.Conversion.rule c.now) (rows_of marks.old figures.old) ≡ Ok tt }
     ensures marks { marks.new ≡ map mark_on marks.old }
     ensures figures { figures.new ≡ figures_on (C.Conversion.rule c.now) marks.old figures.old }
 {
-    for i in 0..marks.len() {
-        let (byte, x) = turned_row(c, marks[i], figures[i]);
-        marks[i] = byte;
-        figures[i] = x;
+    for (row, byte) in marks.iter_mut().enumerate() {
+        (*byte, figures[row]) = turned_row(c, *byte, figures[row]);
     }
 }

@@ -3,7 +3,7 @@ ghost use Rattle.std.specs.Prelude.{◌≡◌};
 ghost use Rattle.sheet.specs.Refusals.{answered};
 ghost use Rattle.sheet.specs.Sheets.{left, opens, opened, entered, turned_on, all_turned_on, turned_back, cleared, as_row, row_read, closes, closing};
 
-use crate::every::{fill, turn_all};
+use crate::every::turn_all;
 use crate::heads::{ClosedSheet, OpenSheet};
 use crate::refusal::Refusal;
 use crate::rows::{Rows, write};
@@ -19,8 +19,9 @@ pub fn open<K: Kind>(marks: &mut [u8], figures: &mut [K]) -> Result<OpenSheet, R
     if figures.len() != len || len < 1 || len > 4096 {
         return Err(Refusal::Memory);
     }
-    fill(marks, u8::from(Mark::Free));
-    fill(figures, K::zero());
+    marks.fill(Mark::Free.into());
+    let zero = K::zero();
+    figures.fill_with(|| zero);
     Ok(OpenSheet { len })
 }
 

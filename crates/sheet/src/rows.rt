@@ -1,6 +1,6 @@
 //! The rows of one sheet, in its two slices: what each call on one row finds, and how it writes.
 ghost use Rattle.std.specs.Prelude.{◌≡◌, ◌<◌, ◌≤◌, length, slice_set, IfOk};
-ghost use Rattle.ledger.specs.Rules.{refuse, and_then, enter_rule, clear_rule, read_rule};
+ghost use Rattle.ledger.specs.Rules.{and_then, enter_rule, clear_rule, read_rule};
 ghost use Rattle.ledger.specs.Marks.{byte_of};
 ghost use Rattle.conversion.specs.Refusals.{answered as converted};
 ghost use Rattle.ledger.specs.Refusals.{at_row};

@@ -16,8 +16,7 @@ none_found x e was rule w r found = let h : Err (told e) ≡ Ok x = sym (ap answ
 -- a row that is refused before the conversion is called may be said to have any answer
 pub returns-in_err-marked : goal.returns-in_err-marked
 returns-in_err-marked g c =
-    let p = err_from_is_err_and c.from_residual.result c.from_residual.ensures.1 in
-    (
+    let p = err_from_is_err_and c.from_residual.result c.from_residual.ensures.1 in (
       Err NotANumber,
       (λ x found. none_found x c.in_err-marked.field-0.0 c.marked.result _ c.in_err-marked.was c.marked.ensures found),
       refused _ c.from_residual.result p.0 c.in_err-marked.field-0.0 c.marked.result _ p.1 p.2 c.in_err-marked.was c.marked.ensures,
