@@ -1,5 +1,7 @@
-ghost use Rattle.std.specs.Prelude.{◌≡◌};
-ghost use Rattle.ledger.specs.Marks.{mark_of, byte_of, held};
+ghost use Rattle.std.specs.Prelude.{◌≡◌, Some};
+ghost use Rattle.ledger.specs.Marks.{mark_of, byte_of, named, held};
+
+use std::fmt;
 
 // What a row is: free, or held. A held row is plain when its figure was entered or came back, and
 // turned when the conversion was put on it.
@@ -32,6 +34,19 @@ impl From<Mark> for u8 {
             Mark::Free => 0,
             Mark::Plain => 1,
             Mark::Turned => 2,
+        }
+    }
+}
+
+// A mark by its name.
+impl fmt::Display for Mark {
+    ghost output = { λ mark. Some (named mark) };
+
+    fn fmt<W: fmt::Write>(&self, f: &mut fmt::Formatter<W>) -> fmt::Result {
+        match self {
+            Mark::Free => write!(f, "free"),
+            Mark::Plain => write!(f, "plain"),
+            Mark::Turned => write!(f, "turned"),
         }
     }
 }
