@@ -1,5 +1,5 @@
 -- A call of a list, with the sheet's own slices or with other memory. Assumes nothing.
-use Rattle.std.proofs.Common.{◌≡◌, ℕ, zero, suc, ◌+◌, ◌<◌, ◌≤◌, Bool, true, false, cond, List, [], ◌∷◌, ◌++◌, length, get_or, take, drop, replicate, sym, refl, ap, ◌∙◌, subst, arith, take-append-drop}
+use Rattle.std.proofs.Common.{◌≡◌, ℕ, ◌+◌, ◌<◌, ◌≤◌, Bool, false, cond, List, [], ◌∷◌, ◌++◌, length, get_or, take, drop, replicate, sym, refl, ap, ◌∙◌, subst, arith, take-append-drop}
 use lib.ListN.{length-replicate}
 use Rattle.std.proofs.lemmas.List.{take-replicate, take_more}
 use Rattle.kinds.specs.Kinds.{Meaning}
@@ -18,13 +18,6 @@ module _ {K : Type 0} (k : Meaning K) (c : Rule K) (s t : Headed) (ms : List ℕ
 
   abbrev chosen : Bool → Step (Sheet K) K
   chosen b = cond b (called_at k c (size s) (seen s ms xs) q.call) (aside k c (size s) (seen s ms xs) other)
-
-  pub listed_own : (ms' : List ℕ) (xs' : List K) → own (size s) q.marks q.figures ≡ true → Stepped k c s ms xs q.call t ms' xs' a → SteppedListed k c s ms xs q t ms' xs' a
-  listed_own ms' xs' o p = record {
-    same_size = p.same_size;
-    after = p.after ∙ ap (λ b. (chosen b).after) (sym o);
-    answer = p.answer ∙ ap (λ b. (chosen b).answer) (sym o);
-  }
 
   -- the front of other slices that hold zeros only; m and f are its lengths
   module _ (om : List ℕ) (ox : List K) (m f : ℕ) (em : m ≡ q.marks) (ef : f ≡ q.figures) (fits : FitsIn (length om) (length ox) q)
@@ -80,16 +73,10 @@ module _ {S K : Type 0} (step : S → Listed K → Step S K) where
 
 -- the longest memory of a list
 module _ {K : Type 0} where
-  pub fits_at : (m f : ℕ) (calls : List (Listed K)) (i : ℕ) (q : Listed K) → Each (FitsIn m f) calls → i < length calls → q ≡ get_or calls i q → FitsIn m f q
-  fits_at m f [] i q all h e = absurd (omega arith)
-  fits_at m f (p ∷ calls) zero q all h e = subst (FitsIn m f) (sym e) all.0
-  fits_at m f (p ∷ calls) (suc i) q all h e = fits_at m f calls i q all.1 (omega arith) e
-
   pub fits_more : (m f m' f' : ℕ) (calls : List (Listed K)) (q : Listed K) → m ≤ m' → f ≤ f' → FitsIn m' f' q → Each (FitsIn m f) calls → Each (FitsIn m' f') (calls ++ (q ∷ []))
   fits_more m f m' f' [] q a b here all = (here, tt)
   fits_more m f m' f' (p ∷ calls) q a b here all = let h = all.0.0 in let g = all.0.1 in ((omega arith, omega arith), fits_more m f m' f' calls q a b here all.1)
 
--- nothing before some elements
-pub take_none : {A : Type 0} (n : ℕ) (l : List A) → take n [] ++ l ≡ l
-take_none zero l = refl
-take_none (suc n) l = refl
+-- a list that is equal to one of zeros
+pub zeros_stay : {A : Type 0} (x l : List A) (z : A) → x ≡ l → l ≡ replicate (length l) z → x ≡ replicate (length x) z
+zeros_stay x l z e h = subst (λ y. y ≡ replicate (length y) z) (sym e) h

@@ -12,7 +12,7 @@ use conversion::conversion::Conversion;
 use kinds::kind::Kind;
 use ledger::call::Listed;
 use sheet::open::open;
-use std::alloc::Global;
+use std::alloc::{AllocError, Global};
 
 // The slices of which a call that brings other memory gets the front. They hold zeros only, since no
 // call changes them.
@@ -68,6 +68,16 @@ fn longest<K>(calls: &[Listed<K>]) -> (usize, usize)
     })
 }
 
+// As many copies of `x`.
+// Stays a function: `vec![in heap; x; n]` makes clones, which no bound of a kind says to equal `x`.
+fn copies<T: Copy>(heap: Global, n: usize, x: T) -> Result<Vec<T>, AllocError>
+    ensures { IfOk result (λ v. v.items ≡ replicate n x) }
+{
+    let mut v = Vec::new(heap);
+    v.resize(n, x)?;
+    Ok(v)
+}
+
 // All calls of the list, one after another; there is room for their answers.
 fn run_list<C: Conversion>(
     sheet: Sheet,
@@ -107,8 +117,8 @@ pub fn carry_out<C: Conversion>(
     ensures { CarriedOut C.Figure.Kind.means (C.Conversion.rule c.now) calls.now marks.old figures.old result marks.new figures.new }
 {
     let (longest_marks, longest_figures) = longest(calls);
-    let mut other_marks = vec![in heap; 0u8; longest_marks]?;
-    let mut other_figures = vec![in heap; C::Figure::zero(); longest_figures]?;
+    let mut other_marks = copies(heap, longest_marks, 0u8)?;
+    let mut other_figures = copies(heap, longest_figures, C::Figure::zero())?;
     let mut answers = Vec::with_capacity(heap, calls.len())?;
     let opened = open(marks, figures)?;
     let mut other = Other {

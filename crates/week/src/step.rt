@@ -76,10 +76,16 @@ fn step_closed<K: Kind>(
     ensures { (c : Rule K) → Stepped K.Kind.means c (Head.Closed sheet) marks.now figures.now call.now result.0 marks.now figures.now result.1 }
 {
     let answer = match call {
-        Call::Read(i) => Answer::of(sheet.read(marks, figures, *i), |(mark, x)| Answer::Row(mark, x)),
+        Call::Read(i) => Answer::of(
+            sheet.read(marks, figures, *i),
+            |(mark, x)| Answer::Row(mark, x),
+        ),
         Call::Total => Answer::of(sheet.total(marks, figures), Answer::Amount),
         Call::Mean => Answer::of(sheet.mean(marks, figures), Answer::Amount),
-        Call::Exceeds(limit) => Answer::of(sheet.exceeds(marks, figures, *limit), |b| Answer::Verdict(b)),
+        Call::Exceeds(limit) => Answer::of(
+            sheet.exceeds(marks, figures, *limit),
+            |b| Answer::Verdict(b),
+        ),
         Call::Reopen => return passed(sheet.reopen(marks, figures), Sheet::Open, Sheet::Closed),
         Call::Enter(_, _)
         | Call::On(_)

@@ -1,24 +1,9 @@
-use Rattle.std.proofs.Common.{◌≡◌, ◌+◌, ◌<◌, cond, [], ◌∷◌, ◌++◌, map, length, take, replicate, vec_items, vec_len, vec_capacity, sym, ap, ◌∙◌, subst, arith, take_all}
+use Rattle.std.proofs.Common.{◌≡◌, ◌+◌, ◌<◌, cond, [], ◌∷◌, ◌++◌, map, take, vec_items, vec_len, vec_capacity, sym, ap, ◌∙◌, arith}
 use Rattle.std.proofs.lemmas.List.{map_push}
-use Rattle.ledger.specs.Ledgers.{run, replies}
-use Rattle.week.specs.Weeks.{size, seen, replied, sheet_step, FitsIn}
-use Rattle.week.proofs.Listing.{run_more, replies_more, fits_at}
+use Rattle.ledger.specs.Ledgers.{replies}
+use Rattle.week.specs.Weeks.{size, seen, replied, sheet_step}
+use Rattle.week.proofs.Listing.{run_more, replies_more}
 use Rattle.week.proofs.run.run_list.Goals as goal
-
-pub step_listed-next-requires : goal.step_listed-next-requires
-step_listed-next-requires g c =
-    let inv = c.loop-listed.invariant in
-    let om = c.args.other_marks.now in
-    let ox = c.args.other_figures.now in
-    let q = c.listed-item.result in
-    let nought = g.C.Figure.Kind.means.nought in
-    let fits = fits_at (length om) (length ox) c.args.calls.now c.loop-listed.listed-index q c.requires.fits c.loop-listed-test.true c.listed-item.is in
-    record {
-      rows = c.loop-listed.auto.marks ∙ c.requires.rows ∙ sym inv.3;
-      fits = subst (λ l. FitsIn (length l) (length c.loop-listed.other_figures) q) (sym inv.4) (subst (λ l. FitsIn (length om) (length l) q) (sym inv.5) fits);
-      fresh_marks = subst (λ l. l ≡ replicate (length l) 0) (sym inv.4) c.requires.fresh_marks;
-      fresh_figures = subst (λ l. l ≡ replicate (length l) nought) (sym inv.5) c.requires.fresh_figures;
-    }
 
 pub loop-listed-preserved : goal.loop-listed-preserved
 loop-listed-preserved g c =
@@ -60,14 +45,3 @@ loop-listed-preserved g c =
           ∙ ap (λ z. replies step first (take i calls) ++ (z ∷ [])) (p.answer ∙ ap (λ m. (sheet_step k rule m before q).answer) inv.3 ∙ ap (λ s. (step s q).answer) inv.6)
           ∙ sym (replies_more step first calls i q taken c.listed-item.is),
     )
-
-pub returns : goal.returns
-returns g c =
-    let step = sheet_step g.C.Figure.Kind.means (g.C.Conversion.rule c.args.c.now) (size c.args.sheet) in
-    let first = seen c.args.sheet c.args.marks.now c.args.figures.now in
-    let calls = c.args.calls.now in
-    let all = take_all c.loop-listed.listed-index calls c.loop-listed-test.false in
-    record {
-      after = c.loop-listed.invariant.6 ∙ ap (run step first) all;
-      answers = c.loop-listed.invariant.7 ∙ ap (replies step first) all;
-    }
