@@ -4,14 +4,10 @@ use Rattle.refusals.specs.Refusals.{Told}
 use Rattle.ledger.specs.declared.call.Call.{Call}
 use Rattle.ledger.specs.declared.call.Call.TheVariants.{Enter, OnAll, Close, Total, Mean, Exceeds}
 use Rattle.ledger.specs.declared.call.Listed.{Listed}
-use Rattle.ledger.specs.Ledgers.{Reply, done, row, amount, verdict, refused, left_out}
+use Rattle.ledger.specs.Ledgers.{Reply, done, row, amount, verdict, refused, left_out, own_call}
 use Rattle.sheet.specs.Refusals.{told}
 use Rattle.scoring.specs.declared.judgement.Judgement.{Judgement}
 use Rattle.scoring.specs.declared.judgement.Judgement.TheVariants.{Refused, Settled, Unsettled}
-
--- a call with the slices of a sheet of n rows
-abbrev pub own_call : {K : Type 0} → ℕ → Call K → Listed K
-own_call n call = record { marks = n; figures = n; call = call }
 
 -- A store that sent a figure has it entered in its row; one that sent nothing has a free row.
 abbrev pub enters_one : {K : Type 0} → ℕ → ℕ → Option K → List (Listed K)

@@ -1,36 +1,9 @@
-ghost use Rattle.std.specs.Prelude.{◌≡◌, true, [], ◌∷◌, ◌++◌, is_ok, IfOk, if◌then◌else◌};
-ghost use Rattle.scoring.specs.Scores.{own_call, enters_one, settling, week_calls};
+ghost use Rattle.std.specs.Prelude.{◌≡◌, ◌++◌, OnOk, IfOk};
+ghost use Rattle.scoring.specs.Scores.{settling, week_calls};
 
 use kinds::kind::Kind;
 use ledger::call::{Call, Listed};
 use std::alloc::{AllocError, Global};
-
-// One call more, with the slices of a sheet of so many rows.
-fn add<K: Kind>(calls: &mut Vec<Listed<K>>, rows: usize, call: Call<K>) -> Result<(), AllocError>
-    ensures { calls.new.items ≡ (if is_ok result then calls.old.items ++ (own_call rows call ∷ []) else calls.old.items) }
-{
-    calls.push(Listed {
-        marks: rows,
-        figures: rows,
-        call,
-    })?;
-    Ok(())
-}
-
-// The call of a row, if its store sent a figure.
-fn add_row<K: Kind>(
-    calls: &mut Vec<Listed<K>>,
-    rows: usize,
-    row: usize,
-    sent: Option<K>,
-) -> Result<(), AllocError>
-    ensures { is_ok result ≡ true → calls.new.items ≡ calls.old.items ++ enters_one rows row sent }
-{
-    match sent {
-        Some(x) => add(calls, rows, Call::Enter(row, x)),
-        None => Ok(()),
-    }
-}
 
 // The calls that turn, close, add up and hold against the limit.
 fn add_settling<K: Kind>(
@@ -38,13 +11,16 @@ fn add_settling<K: Kind>(
     rows: usize,
     limit: K,
 ) -> Result<(), AllocError>
-    ensures { is_ok result ≡ true → calls.new.items ≡ calls.old.items ++ settling rows limit }
+    ensures { OnOk result (calls.new.items ≡ calls.old.items ++ settling rows limit) }
 {
-    add(calls, rows, Call::OnAll)?;
-    add(calls, rows, Call::Close)?;
-    add(calls, rows, Call::Total)?;
-    add(calls, rows, Call::Mean)?;
-    add(calls, rows, Call::Exceeds(limit))
+    let settling = [
+        Call::OnAll,
+        Call::Close,
+        Call::Total,
+        Call::Mean,
+        Call::Exceeds(limit),
+    ];
+    calls.extend(settling.iter().map(|call| Listed::own(rows, *call)))
 }
 
 // The calls of a week. Each figure that was sent is entered in its row; a store that sent nothing has a
@@ -59,8 +35,10 @@ pub fn week_calls<K: Kind>(
 {
     let rows = sent.len();
     let mut calls = Vec::new(heap);
-    for (row, figure) in sent.iter().enumerate() {
-        add_row(&mut calls, rows, row, *figure)?;
+    for (row, figure) in sent.iter().copied().enumerate() {
+        if let Some(x) = figure {
+            calls.push(Listed::own(rows, Call::Enter(row, x)))?;
+        }
     }
     add_settling(&mut calls, rows, limit)?;
     Ok(calls)
