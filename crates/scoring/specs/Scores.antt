@@ -1,7 +1,7 @@
 -- What a week becomes, and what its answers come to.
 use Rattle.std.specs.Prelude.{ℕ, suc, Bool, cond, List, [], ◌∷◌, ◌++◌, length, Some, None, Option, ◌==◌}
+use Rattle.std.specs.Option.{option_map}
 use Rattle.refusals.specs.Refusals.{Told}
-use Rattle.ledger.specs.declared.call.Call.{Call}
 use Rattle.ledger.specs.declared.call.Call.TheVariants.{Enter, OnAll, Close, Total, Mean, Exceeds}
 use Rattle.ledger.specs.declared.call.Listed.{Listed}
 use Rattle.ledger.specs.Ledgers.{Reply, done, row, amount, verdict, refused, left_out, own_call}
@@ -13,6 +13,10 @@ use Rattle.scoring.specs.declared.judgement.Judgement.TheVariants.{Refused, Sett
 abbrev pub enters_one : {K : Type 0} → ℕ → ℕ → Option K → List (Listed K)
 enters_one n i (Some x) = own_call n (Enter i x) ∷ []
 enters_one n i None = []
+
+-- the same call, if there is one
+abbrev pub entered : {K : Type 0} → ℕ → ℕ → Option K → Option (Listed K)
+entered n i x = option_map (λ y. own_call n (Enter i y)) x
 
 abbrev pub enters : {K : Type 0} → ℕ → ℕ → List (Option K) → List (Listed K)
 enters n i [] = []

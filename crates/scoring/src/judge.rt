@@ -28,15 +28,13 @@ fn read_amount<K: Kind>(so_far: Amounts<K>, x: K) -> Amounts<K>
 fn read_verdict<K: Kind>(so_far: Amounts<K>, exceeds: bool) -> Judgement<K>
     ensures { reading (Err result) ≡ verdict_read so_far.total so_far.mean exceeds }
 {
-    so_far
-        .total
-        .map_or(Judgement::Unsettled, |total| {
-            Judgement::Settled(Settlement {
-                total,
-                mean: so_far.mean,
-                exceeds,
-            })
+    so_far.total.map_or(Judgement::Unsettled, |total| {
+        Judgement::Settled(Settlement {
+            total,
+            mean: so_far.mean,
+            exceeds,
         })
+    })
 }
 
 // A refusal refuses the week, but that a week with no scores has no mean.
