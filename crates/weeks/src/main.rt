@@ -54,8 +54,9 @@ fn print_week<K: Kind + Show, C: Conversion<Figure = K>>(
     let mut marks = vec![in heap; 0u8; rows]?;
     let mut figures = vec![in heap; K::zero(); rows]?;
     println!(rt; "{title}")?;
-    let week = carry_out(heap, c, calls, &mut marks, &mut figures)
-        .map_err(|_| anyhow!("no sheet could be opened"))?;
+    let week = carry_out(heap, c, calls, &mut marks, &mut figures).map_err(|_| anyhow!(
+        "no sheet could be opened"
+    ))?;
     for (listed, answer) in calls.iter().zip(week.answers.iter()) {
         let call = Shown(&listed.call);
         let said = Shown(answer);
@@ -92,13 +93,7 @@ fn tanh_week(rt: &HostRuntime) -> anyhow::Result<()> {
         Call::Read(1),
     ];
     let c = By { pair: Tanh };
-    print_both(
-        rt,
-        "tanh of 0, 800 and -800",
-        &c,
-        3,
-        &calls,
-    )
+    print_both(rt, "tanh of 0, 800 and -800", &c, 3, &calls)
 }
 
 fn infinite_week(rt: &HostRuntime) -> anyhow::Result<()> {
@@ -111,13 +106,7 @@ fn infinite_week(rt: &HostRuntime) -> anyhow::Result<()> {
         Call::Exceeds(1.0),
     ];
     let c = By { pair: Sinh };
-    print_both(
-        rt,
-        "sinh of 800 is infinite",
-        &c,
-        1,
-        &calls,
-    )
+    print_both(rt, "sinh of 800 is infinite", &c, 1, &calls)
 }
 
 fn empty_week(rt: &HostRuntime) -> anyhow::Result<()> {
@@ -143,13 +132,7 @@ fn cents_week(rt: &HostRuntime) -> anyhow::Result<()> {
         Call::Exceeds(2),
         Call::Exceeds(3),
     ];
-    print_both(
-        rt,
-        "cents 5 and -8, reversed",
-        &Reversal,
-        3,
-        &calls,
-    )
+    print_both(rt, "cents 5 and -8, reversed", &Reversal, 3, &calls)
 }
 
 fn layers_week(rt: &HostRuntime) -> anyhow::Result<()> {
@@ -169,13 +152,7 @@ fn layers_week(rt: &HostRuntime) -> anyhow::Result<()> {
             second: Reversal,
         },
     };
-    print_both(
-        rt,
-        "cents through a flip and two chains",
-        &c,
-        2,
-        &calls,
-    )
+    print_both(rt, "cents through a flip and two chains", &c, 2, &calls)
 }
 
 fn single_week(rt: &HostRuntime) -> anyhow::Result<()> {

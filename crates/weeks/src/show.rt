@@ -35,6 +35,7 @@ impl Show for i64 {
 }
 
 // A call or an answer as the program prints it.
+#[derive(Drop)]
 pub struct Shown<'a, T>(pub &'a T);
 
 impl<K: Show> fmt::Display for Shown<'_, Call<K>> {
