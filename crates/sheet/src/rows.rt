@@ -104,6 +104,7 @@ impl<K: Kind> Rows<'_, '_, K> {
 }
 
 // A row gets this mark and figure.
+// Stays over two slices: of a struct with two `&mut` each method would have to say that both references stay.
 pub(crate) fn write<K: Copy>(marks: &mut [u8], figures: &mut [K], row: usize, mark: Mark, x: K)
     requires marks { row < length marks.old }
     requires figures { row < length figures.old }

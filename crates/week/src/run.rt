@@ -1,6 +1,6 @@
-ghost use Rattle.std.specs.Prelude.{◌≡◌, ◌≤◌, max, true, [], map, length, replicate, IfOk, vec_capacity};
+ghost use Rattle.std.specs.Prelude.{◌≡◌, ◌≤◌, [], map, length, replicate, IfOk, vec_capacity};
 ghost use Rattle.ledger.specs.Ledgers.{own, run, replies};
-ghost use Rattle.ledger.specs.Mirrors.{Each};
+ghost use Rattle.std.specs.List.{AllByRecursion};
 ghost use Rattle.week.specs.Weeks.{size, seen, replied, sheet_step, SteppedListed, FitsIn};
 ghost use Rattle.week.specs.Law.{CarriedOut};
 
@@ -61,7 +61,7 @@ fn step_listed<C: Conversion>(
 
 // The longest memory that a call of the list brings.
 fn longest<K>(calls: &[Listed<K>]) -> (usize, usize)
-    ensures { Each (FitsIn result.0 result.1) calls.now }
+    ensures { AllByRecursion (FitsIn result.0 result.1) calls.now }
 {
     calls.iter().fold((0, 0), |(marks, figures), listed| {
         (listed.marks.max(marks), listed.figures.max(figures))
@@ -89,7 +89,7 @@ fn run_list<C: Conversion>(
     answers: &mut Vec<Answer<C::Figure>>,
 ) -> Sheet
     requires rows { length marks.old ≡ size sheet }
-    requires fits { Each (FitsIn (length other.old.marks.now) (length other.old.figures.now)) calls.now }
+    requires fits { AllByRecursion (FitsIn (length other.old.marks.now) (length other.old.figures.now)) calls.now }
     requires empty { answers.old.items ≡ [] }
     requires room { length calls.now ≤ vec_capacity answers.old }
     ensures after { seen result marks.new figures.new ≡ run (sheet_step C.Figure.Kind.means (C.Conversion.rule c.now) (size sheet)) (seen sheet marks.old figures.old) calls.now }

@@ -7,6 +7,7 @@ use std::num::{f32_to_bits_with_nan, f64_to_bits_with_nan};
 use week::answer::Answer;
 
 // A kind whose figures can be printed.
+// Stays a trait: the `Display` of a float is that of std, which prints no bits.
 pub trait Show {
     fn show<W: fmt::Write>(&self, f: &mut fmt::Formatter<W>) -> fmt::Result;
 }

@@ -5,7 +5,7 @@ use Rattle.week.proofs.step.step_open.Goals.{in-Enter, in-On, in-OnAll, in-Back,
 pub returns : goal.returns
 returns g c =
     elim c.match-call.branch [
-      in-Enter w ↦ search rules
+      | in-Enter w ↦ search rules
       | in-On w ↦ search rules
       | in-OnAll w ↦ search rules
       | in-Back w ↦ search rules
