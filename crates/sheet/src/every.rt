@@ -1,5 +1,5 @@
 //! The calls on every row, over the slices of one sheet.
-ghost use Rattle.std.specs.Prelude.{◌≡◌, true, map, position, length, if◌then◌else◌, Ok};
+ghost use Rattle.std.specs.Prelude.{◌≡◌, true, map, position, length, replicate, if◌then◌else◌, Ok};
 ghost use Rattle.ledger.specs.Marks.{is_plain, mark_of};
 ghost use Rattle.ledger.specs.Rules.{close_rule, on_all_rule, convertible};
 ghost use Rattle.sheet.specs.Refusals.{answered};
@@ -10,6 +10,15 @@ use crate::rows::Rows;
 use conversion::conversion::Conversion;
 use kinds::kind::Kind;
 use ledger::mark::Mark;
+
+// Every figure becomes zero.
+// Stays a `fill_with`: a `fill` asks for a `clone` that cannot fail, which the bound of a kind does not say.
+pub(crate) fn fill_zero<K: Kind>(figures: &mut [K])
+    ensures { figures.new ≡ replicate (length figures.old) K.Kind.means.nought }
+{
+    let zero = K::zero();
+    figures.fill_with(|| zero);
+}
 
 impl<K> Rows<'_, '_, K> {
     // The first plain row.

@@ -3,7 +3,7 @@ ghost use Rattle.std.specs.Prelude.{◌≡◌};
 ghost use Rattle.sheet.specs.Refusals.{answered};
 ghost use Rattle.sheet.specs.Sheets.{left, opens, opened, entered, turned_on, all_turned_on, turned_back, cleared, as_row, row_read, closes, closing};
 
-use crate::every::turn_all;
+use crate::every::{fill_zero, turn_all};
 use crate::heads::{ClosedSheet, OpenSheet};
 use crate::refusal::Refusal;
 use crate::rows::{Rows, write};
@@ -20,8 +20,7 @@ pub fn open<K: Kind>(marks: &mut [u8], figures: &mut [K]) -> Result<OpenSheet, R
         return Err(Refusal::Memory);
     }
     marks.fill(Mark::Free.into());
-    let zero = K::zero();
-    figures.fill_with(|| zero);
+    fill_zero(figures);
     Ok(OpenSheet { len })
 }
 
