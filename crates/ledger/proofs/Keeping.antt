@@ -14,7 +14,8 @@ use Rattle.ledger.specs.Marks.{held}
 use Rattle.ledger.specs.Refusals.{no_such_row, is_held, not_a_number, is_free, at_row}
 use Rattle.ledger.specs.Rules.{Row, refuse, and_then, row_by_row, enter_rule, clear_rule, on_mark, on_rule, back_mark, back_rule, convertible, on_all_rule, close_rule}
 use Rattle.ledger.specs.Ledgers.{Ledger, Reply, done, row, amount, verdict, refused, left_out, Step, has, own, free_row, new_ledger, puts, becomes, turned_by, turn_row, turns_all, row_of, own_step, ledger_step, run, replies}
-use Rattle.ledger.specs.Mirrors.{Each, Each2, for_figure, refused_for_figure}
+use Rattle.ledger.specs.Mirrors.{for_figure, refused_for_figure}
+use Rattle.std.specs.List.{AllByRecursion, AllZip}
 use Rattle.ledger.proofs.Each.{each_set, each_at, each_replicate, each_map, either}
 
 -- what comes of a check that let pass
@@ -83,7 +84,7 @@ module _ {K : Type 0} (k : Meaning K) (c : Rule K) where
         go Turned e = turned (in_range k c r.figure) refl e
 
   -- an on_all of such rows is not refused
-  pub all_convertible : (i : ℕ) (rows : List (Row K)) → Each Good rows → row_by_row (convertible k c) i rows tt ≡ Ok tt
+  pub all_convertible : (i : ℕ) (rows : List (Row K)) → AllByRecursion Good rows → row_by_row (convertible k c) i rows tt ≡ Ok tt
   all_convertible i [] h = refl
   all_convertible i (r ∷ rows) h = go r.mark r.figure h.0 ∙ all_convertible (suc i) rows h.1
     where
@@ -100,23 +101,23 @@ module _ {K : Type 0} (k : Meaning K) (c : Rule K) where
       go Plain x g = (x, g, refl)
       go Turned x g = g
 
-  module _ (l : Ledger K) (h : Each Good l.rows) where
+  module _ (l : Ledger K) (h : AllByRecursion Good l.rows) where
     row_good : (i : ℕ) → Good (row_of k c l i)
     row_good i = each_at Good l.rows i (free_row k) h refl
 
-    puts_good : (i : ℕ) (m : Mark) (r : Result K Told) → ((x : K) → r ≡ Ok x → GoodAt m x) → Each Good (puts l i m r).after.rows
+    puts_good : (i : ℕ) (m : Mark) (r : Result K Told) → ((x : K) → r ≡ Ok x → GoodAt m x) → AllByRecursion Good (puts l i m r).after.rows
     puts_good i m (Ok x) g = each_set Good l.rows i (record { mark = m; figure = x }) h (g x refl)
     puts_good i m (Err t) g = h
 
-    becomes_good : (b : Bool) (r : Result Unit Told) → Each Good (becomes l b r).after.rows
+    becomes_good : (b : Bool) (r : Result Unit Told) → AllByRecursion Good (becomes l b r).after.rows
     becomes_good b (Ok u) = h
     becomes_good b (Err t) = h
 
-    all_good : (r : Result Unit Told) → Each Good (turns_all k c l r).after.rows
+    all_good : (r : Result Unit Told) → AllByRecursion Good (turns_all k c l r).after.rows
     all_good (Ok u) = each_map Good Good (turn_row k c) turn_good l.rows h
     all_good (Err t) = h
 
-    own_good : Sound k c → (call : Call K) → Each Good (own_step k c l call).after.rows
+    own_good : Sound k c → (call : Call K) → AllByRecursion Good (own_step k c l call).after.rows
     own_good s (Enter i x) = puts_good i Plain (enter_rule k (length l.rows) i (row_of k c l i) x) (enter_gives (length l.rows) i (row_of k c l i) x)
     own_good s (On i) = puts_good i Turned (on_rule k (length l.rows) i (row_of k c l i) c) (on_gives (length l.rows) i (row_of k c l i))
     own_good s OnAll = all_good (on_all_rule k c l.rows)
@@ -129,9 +130,9 @@ module _ {K : Type 0} (k : Meaning K) (c : Rule K) where
     own_good s Mean = h
     own_good s (Exceeds x) = h
 
-    pub step_good : Sound k c → (q : Listed K) → Each Good (ledger_step k c l q).after.rows
+    pub step_good : Sound k c → (q : Listed K) → AllByRecursion Good (ledger_step k c l q).after.rows
     step_good s q =
-        let Q : Step (Ledger K) K → Type 0 = λ z. Each Good z.after.rows in
+        let Q : Step (Ledger K) K → Type 0 = λ z. AllByRecursion Good z.after.rows in
         either Q (has l.closed q.call) _ _ (either Q (own (length l.rows) q.marks q.figures) _ _ (own_good s q.call) h) h
 
     -- ---- no turn is refused for its figure
@@ -235,13 +236,13 @@ module _ {K : Type 0} (k : Meaning K) (c : Rule K) where
 
   -- ---- over a list of calls
   module _ (s : Sound k c) where
-    pub run_good : (l : Ledger K) (calls : List (Listed K)) → Each Good l.rows → Each Good (run (ledger_step k c) l calls).rows
+    pub run_good : (l : Ledger K) (calls : List (Listed K)) → AllByRecursion Good l.rows → AllByRecursion Good (run (ledger_step k c) l calls).rows
     run_good l [] h = h
     run_good l (q ∷ calls) h = run_good (ledger_step k c l q).after calls (step_good l h s q)
 
-    pub run_fair : (l : Ledger K) (calls : List (Listed K)) → Each Good l.rows → Each2 (λ q a. refused_for_figure q.call a ≡ false) calls (replies (ledger_step k c) l calls)
+    pub run_fair : (l : Ledger K) (calls : List (Listed K)) → AllByRecursion Good l.rows → AllZip (λ q a. refused_for_figure q.call a ≡ false) calls (replies (ledger_step k c) l calls)
     run_fair l [] h = tt
     run_fair l (q ∷ calls) h = (step_fair l h s q, run_fair (ledger_step k c l q).after calls (step_good l h s q))
 
-  pub new_good : (n : ℕ) → Each Good (new_ledger k n).rows
+  pub new_good : (n : ℕ) → AllByRecursion Good (new_ledger k n).rows
   new_good n = each_replicate Good n (free_row k) refl

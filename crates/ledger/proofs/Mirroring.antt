@@ -16,7 +16,8 @@ use Rattle.ledger.specs.Marks.{held, is_plain}
 use Rattle.ledger.specs.Refusals.{memory, no_such_row, is_held, not_a_number, still_plain, at_row}
 use Rattle.ledger.specs.Rules.{Row, refuse, and_then, row_by_row, enter_rule, clear_rule, read_rule, on_mark, on_rule, back_mark, back_rule, on_all_rule, not_plain, close_rule}
 use Rattle.ledger.specs.Ledgers.{Ledger, row, refused, left_out, reply, Step, has, own, free_row, new_ledger, stays, puts, becomes, turn_row, turned_by, turns_all, row_of, own_step, ledger_step, run, replies}
-use Rattle.ledger.specs.Mirrors.{Each, Each2, turn_held, mirror_row, mirror_ledger, mirror_call, mirror_listed, Alike}
+use Rattle.ledger.specs.Mirrors.{turn_held, mirror_row, mirror_ledger, mirror_call, mirror_listed, Alike}
+use Rattle.std.specs.List.{AllByRecursion, AllZip}
 use Rattle.ledger.proofs.Each.{each_at, each_map, map_replicate}
 use Rattle.ledger.proofs.Keeping.{Good, GoodAt, step_good, step_length, all_convertible}
 use Rattle.ledger.proofs.Summing.{totals_alike, means_alike, verdicts_alike}
@@ -88,7 +89,7 @@ module _ {K : Type 0} (k : Meaning K) (c : Rule K) (laws : Lawful k) (zero_finit
       go Plain x g = laws.turned_number x ∙ g
       go Turned x (z, p, e) = (k.turned z, laws.turned_number z ∙ p, ap k.turned e ∙ sym (odd.on_turned z p))
 
-  turn_mirror : (rows : List (Row K)) → Each (Good k c) rows → map (turn_row k c) (map (mirror_row k) rows) ≡ map (mirror_row k) (map (turn_row k c) rows)
+  turn_mirror : (rows : List (Row K)) → AllByRecursion (Good k c) rows → map (turn_row k c) (map (mirror_row k) rows) ≡ map (mirror_row k) (map (turn_row k c) rows)
   turn_mirror [] h = refl
   turn_mirror (r ∷ rows) h = ap (λ z. z ∷ map (turn_row k c) (map (mirror_row k) rows)) (go r.mark r.figure h.0) ∙ ap (λ l. mirror_row k (turn_row k c r) ∷ l) (turn_mirror rows h.1)
     where
@@ -97,7 +98,7 @@ module _ {K : Type 0} (k : Meaning K) (c : Rule K) (laws : Lawful k) (zero_finit
       go Plain x g = ap (λ y. record { mark = Turned; figure = y }) (odd.on_turned x g)
       go Turned x g = refl
 
-  module _ (l : Ledger K) (h : Each (Good k c) l.rows) (few : length l.rows ≤ 4096) where
+  module _ (l : Ledger K) (h : AllByRecursion (Good k c) l.rows) (few : length l.rows ≤ 4096) where
     abbrev m : Ledger K
     m = mirror_ledger k l
 
@@ -188,7 +189,7 @@ module _ {K : Type 0} (k : Meaning K) (c : Rule K) (laws : Lawful k) (zero_finit
         (choose (own (length l.rows) q.marks q.figures) _ _ _ _ (own_both q.call) (record { after = refl; answer = refl }))
         (record { after = refl; answer = refl })))
 
-  pub run_mirror : (calls : List (Listed K)) (l : Ledger K) → Each (Good k c) l.rows → length l.rows ≤ 4096
+  pub run_mirror : (calls : List (Listed K)) (l : Ledger K) → AllByRecursion (Good k c) l.rows → length l.rows ≤ 4096
       → run (ledger_step k c) (mirror_ledger k l) (map (mirror_listed k) calls) ≡ mirror_ledger k (run (ledger_step k c) l calls)
   run_mirror [] l h few = refl
   run_mirror (q ∷ calls) l h few =
@@ -196,14 +197,14 @@ module _ {K : Type 0} (k : Meaning K) (c : Rule K) (laws : Lawful k) (zero_finit
       let long = step_length k c l q in
       ap (λ m. run (ledger_step k c) m (map (mirror_listed k) calls)) (step_both l h few q).after ∙ run_mirror calls next (step_good k c l h sound q) (omega arith)
 
-  pub replies_mirror : (calls : List (Listed K)) (l : Ledger K) → Each (Good k c) l.rows → length l.rows ≤ 4096
-      → Each2 (Alike k) (replies (ledger_step k c) l calls) (replies (ledger_step k c) (mirror_ledger k l) (map (mirror_listed k) calls))
+  pub replies_mirror : (calls : List (Listed K)) (l : Ledger K) → AllByRecursion (Good k c) l.rows → length l.rows ≤ 4096
+      → AllZip (Alike k) (replies (ledger_step k c) l calls) (replies (ledger_step k c) (mirror_ledger k l) (map (mirror_listed k) calls))
   replies_mirror [] l h few = tt
   replies_mirror (q ∷ calls) l h few =
       let next = (ledger_step k c l q).after in
       let long = step_length k c l q in (
         (step_both l h few q).answer,
-        subst (λ m. Each2 (Alike k) (replies (ledger_step k c) next calls) (replies (ledger_step k c) m (map (mirror_listed k) calls))) (sym (step_both l h few q).after)
+        subst (λ m. AllZip (Alike k) (replies (ledger_step k c) next calls) (replies (ledger_step k c) m (map (mirror_listed k) calls))) (sym (step_both l h few q).after)
             (replies_mirror calls next (step_good k c l h sound q) (omega arith)),
       )
 

@@ -54,6 +54,10 @@ has closed (Exceeds x) = closed
 abbrev pub own : ℕ → ℕ → ℕ → Bool
 own n marks figures = marks == n && figures == n
 
+-- a call with the two slices of a sheet of n rows
+abbrev pub own_call : {K : Type 0} → ℕ → Call K → Listed K
+own_call n call = record { marks = n; figures = n; call = call }
+
 pub record Ledger (K : Type 0) : Type 0 where
   pub closed : Bool
   pub rows : List (Row K)

@@ -1,5 +1,5 @@
 -- Marks and the bytes that they are written as.
-use Rattle.std.specs.Prelude.{ℕ, Bool, true, false, cond, ◌==◌}
+use Rattle.std.specs.Prelude.{ℕ, Bool, true, false, cond, List, codes, ◌==◌}
 use Rattle.ledger.specs.declared.mark.Mark.{Mark}
 use Rattle.ledger.specs.declared.mark.Mark.TheVariants.{Free, Plain, Turned}
 
@@ -11,6 +11,12 @@ abbrev pub byte_of : Mark → ℕ
 byte_of Free = 0
 byte_of Plain = 1
 byte_of Turned = 2
+
+-- the name of a mark, as bytes
+abbrev pub named : Mark → List ℕ
+named Free = codes "free"
+named Plain = codes "plain"
+named Turned = codes "turned"
 
 -- held: plain or turned
 abbrev pub held : Mark → Bool

@@ -1,5 +1,5 @@
 -- What is said of rows and replies over a list of calls, and of the week that mirrors another.
-use Rattle.std.specs.Prelude.{◌≡◌, ℕ, Bool, false, List, [], ◌∷◌, map, ◌==◌}
+use Rattle.std.specs.Prelude.{◌≡◌, ℕ, Bool, false, map, ◌==◌}
 use Rattle.kinds.specs.Kinds.{Meaning, Same}
 use Rattle.ledger.specs.declared.mark.Mark.{Mark}
 use Rattle.ledger.specs.declared.mark.Mark.TheVariants.{Free, Plain, Turned}
@@ -8,17 +8,6 @@ use Rattle.ledger.specs.declared.call.Call.TheVariants.{Enter, On, OnAll, Back, 
 use Rattle.ledger.specs.declared.call.Listed.{Listed}
 use Rattle.ledger.specs.Rules.{Row}
 use Rattle.ledger.specs.Ledgers.{Ledger, Reply, done, row, amount, verdict, refused, left_out}
-
--- something of every element, and of every two at the same place of two lists of one length
-abbrev pub Each : {A : Type 0} → (A → Type 0) → List A → Type 0
-Each P [] = Unit {0}
-Each P (x ∷ xs) = P x × Each P xs
-
-abbrev pub Each2 : {A B : Type 0} → (A → B → Type 0) → List A → List B → Type 0
-Each2 P [] [] = Unit {0}
-Each2 P [] (y ∷ ys) = ⊥
-Each2 P (x ∷ xs) [] = ⊥
-Each2 P (x ∷ xs) (y ∷ ys) = P x y × Each2 P xs ys
 
 -- Refused for its figure: 4 from on or on_all, 7 from back.
 abbrev pub for_figure : {K : Type 0} → Call K → ℕ → Bool

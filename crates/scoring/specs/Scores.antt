@@ -1,22 +1,22 @@
 -- What a week becomes, and what its answers come to.
 use Rattle.std.specs.Prelude.{ℕ, suc, Bool, cond, List, [], ◌∷◌, ◌++◌, length, Some, None, Option, ◌==◌}
+use Rattle.std.specs.Option.{option_map}
 use Rattle.refusals.specs.Refusals.{Told}
-use Rattle.ledger.specs.declared.call.Call.{Call}
 use Rattle.ledger.specs.declared.call.Call.TheVariants.{Enter, OnAll, Close, Total, Mean, Exceeds}
 use Rattle.ledger.specs.declared.call.Listed.{Listed}
-use Rattle.ledger.specs.Ledgers.{Reply, done, row, amount, verdict, refused, left_out}
+use Rattle.ledger.specs.Ledgers.{Reply, done, row, amount, verdict, refused, left_out, own_call}
 use Rattle.sheet.specs.Refusals.{told}
 use Rattle.scoring.specs.declared.judgement.Judgement.{Judgement}
 use Rattle.scoring.specs.declared.judgement.Judgement.TheVariants.{Refused, Settled, Unsettled}
-
--- a call with the slices of a sheet of n rows
-abbrev pub own_call : {K : Type 0} → ℕ → Call K → Listed K
-own_call n call = record { marks = n; figures = n; call = call }
 
 -- A store that sent a figure has it entered in its row; one that sent nothing has a free row.
 abbrev pub enters_one : {K : Type 0} → ℕ → ℕ → Option K → List (Listed K)
 enters_one n i (Some x) = own_call n (Enter i x) ∷ []
 enters_one n i None = []
+
+-- the same call, if there is one
+abbrev pub entered : {K : Type 0} → ℕ → ℕ → Option K → Option (Listed K)
+entered n i x = option_map (λ y. own_call n (Enter i y)) x
 
 abbrev pub enters : {K : Type 0} → ℕ → ℕ → List (Option K) → List (Listed K)
 enters n i [] = []

@@ -7,7 +7,6 @@ ghost use Rattle.scoring.specs.Readings.{reading};
 
 use crate::judgement::{Amounts, Judgement, Settlement};
 use kinds::kind::Kind;
-use refusals::Numbered;
 use sheet::refusal::Refusal;
 use week::answer::Answer;
 
@@ -17,11 +16,11 @@ fn read_amount<K: Kind>(so_far: Amounts<K>, x: K) -> Amounts<K>
     match so_far.total {
         None => Amounts {
             total: Some(x),
-            mean: so_far.mean,
+            ..so_far
         },
-        Some(total) => Amounts {
-            total: Some(total),
+        Some(_) => Amounts {
             mean: Some(x),
+            ..so_far
         },
     }
 }
@@ -29,14 +28,13 @@ fn read_amount<K: Kind>(so_far: Amounts<K>, x: K) -> Amounts<K>
 fn read_verdict<K: Kind>(so_far: Amounts<K>, exceeds: bool) -> Judgement<K>
     ensures { reading (Err result) ≡ verdict_read so_far.total so_far.mean exceeds }
 {
-    match so_far.total {
-        None => Judgement::Unsettled,
-        Some(total) => Judgement::Settled(Settlement {
+    so_far.total.map_or(Judgement::Unsettled, |total| {
+        Judgement::Settled(Settlement {
             total,
             mean: so_far.mean,
             exceeds,
-        }),
-    }
+        })
+    })
 }
 
 // A refusal refuses the week, but that a week with no scores has no mean.
@@ -47,10 +45,10 @@ fn read_refusal<K: Kind>(
 ) -> Result<Amounts<K>, Judgement<K>>
     ensures { reading result ≡ next i so_far.total so_far.mean (refused_reply (told refusal)) }
 {
-    if refusal.number() == 11 {
-        return Ok(so_far);
+    match refusal {
+        Refusal::NothingTurned => Ok(so_far),
+        _ => Err(Judgement::Refused(i, refusal)),
     }
-    Err(Judgement::Refused(i, refusal))
 }
 
 // One answer read: the amounts so far, or the end.
@@ -62,16 +60,15 @@ fn read_one<K: Kind>(
     ensures { reading result ≡ next i so_far.total so_far.mean (replied answer.now) }
 {
     match *answer {
-        Answer::Done => Ok(so_far),
-        Answer::Row(_, _) => Ok(so_far),
+        Answer::Done | Answer::Row(_, _) | Answer::LeftOut => Ok(so_far),
         Answer::Amount(x) => Ok(read_amount(so_far, x)),
         Answer::Verdict(exceeds) => Err(read_verdict(so_far, exceeds)),
         Answer::Refused(refusal) => read_refusal(i, so_far, refusal),
-        Answer::LeftOut => Ok(so_far),
     }
 }
 
 // What the answers of a week come to.
+// Stays a loop with a `match`: an answer that ends it gives a judgement, which is no error for a `?`.
 pub fn judge<K: Kind>(answers: &[Answer<K>]) -> Judgement<K>
     ensures { judged result ≡ judgement 0 None None (map replied answers.now) }
 {

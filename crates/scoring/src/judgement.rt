@@ -1,7 +1,7 @@
 use sheet::refusal::Refusal;
 
 // What a week comes to.
-#[derive(Clone, Copy)]
+#[derive(Clone, Copy, PartialEq, Debug)]
 pub enum Judgement<K> {
     // A call was refused, by its place in the list: nothing may be paid.
     Refused(usize, Refusal),
@@ -12,7 +12,7 @@ pub enum Judgement<K> {
 }
 
 // The total, the mean unless no store has a score, and whether the total is greater than the limit.
-#[derive(Clone, Copy)]
+#[derive(Clone, Copy, PartialEq, Debug)]
 pub struct Settlement<K> {
     pub total: K,
     pub mean: Option<K>,
@@ -20,7 +20,7 @@ pub struct Settlement<K> {
 }
 
 // What was answered so far.
-#[derive(Clone, Copy)]
+#[derive(Clone, Copy, PartialEq, Debug)]
 pub struct Amounts<K> {
     pub total: Option<K>,
     pub mean: Option<K>,

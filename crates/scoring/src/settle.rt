@@ -20,11 +20,7 @@ pub fn settle<C: Conversion>(
 ) -> Result<Judgement<C::Figure>, Stop>
     ensures { SettledBy C.Figure.Kind.means (C.Conversion.rule c.now) sent.now limit marks.old figures.old result marks.new figures.new }
 {
-    let Ok(calls) = week_calls(heap, sent, limit) else {
-        return Err(Stop::NoMemory);
-    };
-    match carry_out(heap, c, calls.as_slice(), marks, figures) {
-        Ok(week) => Ok(judge(week.answers.as_slice())),
-        Err(stop) => Err(stop),
-    }
+    let calls = week_calls(heap, sent, limit)?;
+    let week = carry_out(heap, c, &calls, marks, figures)?;
+    Ok(judge(&week.answers))
 }

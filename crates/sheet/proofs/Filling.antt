@@ -21,9 +21,13 @@ module _ {A : Type 0} where
   filled_end cur new old i inv h j = inv ∙ ap (λ l. l ++ drop i old) (take_all i new h) ∙ ap (λ l. new ++ l) (drop_all i old j) ∙ append-nil new
 
   -- what is not yet written
-  pub unwritten : (new old : List A) (i : ℕ) (d : A) → length new ≡ length old → get_or (up_to i new old) i d ≡ get_or old i d
+  unwritten : (new old : List A) (i : ℕ) (d : A) → length new ≡ length old → get_or (up_to i new old) i d ≡ get_or old i d
   unwritten new old zero d e = refl
   unwritten [] [] (suc i) d e = refl
   unwritten [] (o ∷ old) (suc i) d e = absurd (omega arith)
   unwritten (n ∷ new) [] (suc i) d e = absurd (omega arith)
   unwritten (n ∷ new) (o ∷ old) (suc i) d e = unwritten new old i d (omega arith)
+
+  -- an element that is not yet written is the old one
+  pub still : (cur new old : List A) (i : ℕ) (d : A) → cur ≡ up_to i new old → length new ≡ length old → get_or cur i d ≡ get_or old i d
+  still cur new old i d inv e = ap (λ l. get_or l i d) inv ∙ unwritten new old i d e

@@ -1,4 +1,3 @@
-pub mod Walking
 pub mod Filling
 pub mod Turning
 pub mod Means

@@ -1,43 +1,36 @@
--- The mean of a sheet by its count and its total. Assumes nothing.
-use Rattle.std.proofs.Common.{◌≡◌, ℕ, ◌≤◌, List, length, None, Ok, Err, Option, Result, sym, ap, ◌∙◌, arith}
+-- What the counts and searches over the mark bytes of a sheet say of its rows. Assumes nothing.
+use Rattle.std.proofs.Common.{◌≡◌, ℕ, suc, ◌+◌, Bool, true, false, not, cond, List, [], ◌∷◌, length, Ok, Err, Result, sym, refl, ap, ◌∙◌, nat_lt, arith}
+use Rattle.std.specs.List.{count_by, position_or_len}
 use Rattle.std.proofs.lemmas.Bool.Decides.{nat_tests}
+use Rattle.std.proofs.lemmas.List.Sums.{sum_by-cons}
 use Rattle.refusals.specs.Refusals.{Told}
-use Rattle.kinds.specs.Kinds.{Meaning}
-use Rattle.kinds.specs.Counts.{counted}
-use Rattle.kinds.specs.declared.count.Count.{Count}
-use Rattle.ledger.specs.Refusals.{nothing_turned}
-use Rattle.ledger.specs.Rules.{and_then, some_turned, total_rule, mean_rule}
-use Rattle.sheet.specs.declared.refusal.Refusal.{Refusal}
-use Rattle.sheet.specs.Refusals.{answered}
-use Rattle.sheet.specs.Sheets.{rows_of, turned_bytes, counts}
-use Rattle.sheet.proofs.Walking.{count_rows}
+use Rattle.ledger.specs.Marks.{mark_of, is_plain, is_turned}
+use Rattle.ledger.specs.Refusals.{still_plain}
+use Rattle.ledger.specs.Rules.{Row, refuse, and_then, turned_count, row_by_row, not_plain}
+use Rattle.sheet.specs.Sheets.{rows_of}
 
--- a number up to 4,096 that is no count is 0
-pub none_counted : (n : ℕ) → n ≤ 4096 → ◌≡◌ {A = Option ℕ} None (counted n) → ◌≡◌ {A = Result ℕ Told} (Err nothing_turned) (some_turned n)
-none_counted n h e = grind (arith, nat_tests)
+abbrev first : List ℕ → ℕ
+first ms = position_or_len (λ m. is_plain (mark_of m)) ms
 
-module _ {K : Type 0} (k : Meaning K) where
-  -- a mean, by what is known of the count and of the total
-  abbrev pub mean : Result ℕ Told → Result K Told → Result K Told
-  mean count total = and_then count (λ n. and_then total (λ s. Ok (k.over s n)))
+module _ {K : Type 0} where
+  -- the rows that are read of two slices are turned where the mark bytes say so
+  pub count_rows : (ms : List ℕ) (xs : List K) → length xs ≡ length ms → turned_count (rows_of ms xs) ≡ count_by (λ m. is_turned (mark_of m)) ms
+  count_rows [] xs e = refl
+  count_rows (m ∷ ms) [] e = absurd (omega arith)
+  count_rows (m ∷ ms) (x ∷ xs) e =
+      ap (λ n. cond (is_turned (mark_of m)) 1 0 + n) (count_rows ms xs (omega arith)) ∙ sym (sum_by-cons (λ m. cond (is_turned (mark_of m)) 1 0) m ms)
 
-  module _ (ms : List ℕ) (xs : List K) (lengths : length xs ≡ length ms) (count : Result Count Refusal) (counted : counts count ≡ some_turned (turned_bytes ms)) where
-    by_count : mean_rule k (rows_of ms xs) ≡ mean (counts count) (total_rule k (rows_of ms xs))
-    by_count = ap (λ n. mean (some_turned n) (total_rule k (rows_of ms xs))) (count_rows ms xs lengths) ∙ ap (λ a. mean a (total_rule k (rows_of ms xs))) (sym counted)
+  -- what a close finds from row i on
+  abbrev closing : ℕ → List (Row K) → Result Unit Told
+  closing i rows = row_by_row (λ i r _. not_plain i r.mark) i rows (tt {0})
 
-    -- no count
-    pub mean_none : (out : Result K Refusal) (y e : Refusal) → out ≡ Err y → y ≡ e → count ≡ Err e → answered out ≡ mean_rule k (rows_of ms xs)
-    mean_none out y e o same was =
-        ap answered (o ∙ ap Err same) ∙ sym (by_count ∙ ap (λ a. mean (counts a) (total_rule k (rows_of ms xs))) was)
-
-    module _ (n : Count) (some : count ≡ Ok n) (total : Result K Refusal) (summed : answered total ≡ total_rule k (rows_of ms xs)) where
-      by_total : mean_rule k (rows_of ms xs) ≡ mean (Ok n.value) (answered total)
-      by_total = by_count ∙ ap (λ a. mean (counts a) (total_rule k (rows_of ms xs))) some ∙ ap (mean (Ok n.value)) (sym summed)
-
-      -- a count and no total
-      pub mean_refused : (out : Result K Refusal) (y e : Refusal) → out ≡ Err y → y ≡ e → total ≡ Err e → answered out ≡ mean_rule k (rows_of ms xs)
-      mean_refused out y e o same was = ap answered (o ∙ ap Err same) ∙ sym (by_total ∙ ap (λ a. mean (Ok n.value) (answered a)) was)
-
-      -- both
-      pub mean_is : (s y : K) → total ≡ Ok s → y ≡ k.over s n.value → ◌≡◌ {A = Result K Told} (Ok y) (mean_rule k (rows_of ms xs))
-      mean_is s y was e = ap Ok e ∙ sym (by_total ∙ ap (λ a. mean (Ok n.value) (answered a)) was)
+  -- it is the first plain row
+  pub first_plain : (i : ℕ) (ms : List ℕ) (xs : List K) → length xs ≡ length ms → row_by_row (λ i r _. not_plain i r.mark) i (rows_of ms xs) (tt {0}) ≡ cond (nat_lt (first ms) (length ms)) (Err (still_plain (i + first ms))) (Ok (tt {0}))
+  first_plain i [] xs e = refl
+  first_plain i (m ∷ ms) [] e = absurd (omega arith)
+  first_plain i (m ∷ ms) (x ∷ xs) e = go (is_plain (mark_of m)) (first_plain (suc i) ms xs (omega arith))
+    where
+      go : (b : Bool) → closing (suc i) (rows_of ms xs) ≡ cond (nat_lt (first ms) (length ms)) (Err (still_plain (suc i + first ms))) (Ok (tt {0}))
+          → and_then (refuse b (still_plain i) (Ok (tt {0}))) (λ _. closing (suc i) (rows_of ms xs)) ≡ cond (nat_lt (cond (not b) (1 + first ms) 0) (suc (length ms))) (Err (still_plain (i + cond (not b) (1 + first ms) 0))) (Ok (tt {0}))
+      go true h = grind (arith, nat_tests)
+      go false h = grind (arith, nat_tests, h)

@@ -1,5 +1,6 @@
 -- What is told of each refusal of a sheet.
 use Rattle.std.specs.Prelude.{ℕ, not, List, [], ◌∷◌, ℤ, Some, None, Ok, Option, Result}
+use Rattle.std.specs.Result.{result_map_both}
 use Rattle.refusals.specs.Refusals as Refusals
 use Rattle.refusals.specs.Refusals.{Told}
 use Rattle.conversion.specs.Refusals as Conversion
@@ -26,6 +27,10 @@ told NoLimit = Ledger.no_limit
 
 abbrev pub answered : {A : Type 0} → Result A Refusal → Result A Told
 answered r = Refusals.answered told r
+
+-- whether a check let pass, whatever it gave
+abbrev pub checked : {A : Type 0} → Result A Refusal → Result Unit Told
+checked r = result_map_both (λ _. tt) told r
 
 -- the row that a refusal concerns: the first of its values
 abbrev pub first_of : List ℤ → Option ℤ

@@ -1,13 +1,13 @@
 -- What each call on a sheet answers, and what it leaves in the two slices, whatever they hold.
-use Rattle.std.specs.Prelude.{ℕ, ◌+◌, Bool, cond, not, ◌&&◌, List, [], ◌∷◌, map, length, replicate, Ok, Err, Result, ◌==◌, nat_le, slice_index, slice_index_or, slice_set}
+use Rattle.std.specs.Prelude.{ℕ, Bool, cond, not, ◌&&◌, List, [], ◌∷◌, map, length, replicate, Ok, Err, Result, ◌==◌, nat_le, slice_index, slice_index_or, slice_set}
 use Rattle.std.specs.Result.{result_map_both}
 use Rattle.refusals.specs.Refusals.{Told}
 use Rattle.kinds.specs.Kinds.{Meaning}
 use Rattle.conversion.specs.Conversions.{Rule}
 use Rattle.ledger.specs.declared.mark.Mark.{Mark}
 use Rattle.ledger.specs.declared.mark.Mark.TheVariants.{Free, Plain, Turned}
-use Rattle.ledger.specs.Marks.{mark_of, byte_of, is_plain, is_turned}
-use Rattle.ledger.specs.Refusals.{memory}
+use Rattle.ledger.specs.Marks.{mark_of, byte_of, held, is_plain, is_turned}
+use Rattle.ledger.specs.Refusals.{memory, no_such_row, is_free, wrong_way}
 use Rattle.ledger.specs.Rules.{Row, refuse, and_then, enter_rule, clear_rule, read_rule, on_rule, back_rule, close_rule, on_all_rule, total_rule, mean_rule, exceeds_rule}
 use Rattle.kinds.specs.declared.count.Count.{Count}
 use Rattle.sheet.specs.declared.heads.OpenSheet.{OpenSheet}
@@ -34,14 +34,20 @@ rows_of [] xs = []
 rows_of (m ∷ ms) [] = []
 rows_of (m ∷ ms) (x ∷ xs) = record { mark = mark_of m; figure = x } ∷ rows_of ms xs
 
--- how many mark bytes say turned
-abbrev pub turned_bytes : List ℕ → ℕ
-turned_bytes [] = 0
-turned_bytes (m ∷ ms) = cond (is_turned (mark_of m)) 1 0 + turned_bytes ms
-
 module _ {K : Type 0} (k : Meaning K) (ms : List ℕ) (xs : List K) where
   abbrev pub row_at : ℕ → Row K
   row_at i = record { mark = mark_of (slice_index ms i); figure = slice_index_or xs i k.nought }
+
+-- whether two marks are one
+abbrev pub same_mark : Mark → Mark → Bool
+same_mark Free m = not (held m)
+same_mark Plain m = is_plain m
+same_mark Turned m = is_turned m
+
+-- the figure of the row i of n, if it has a mark
+abbrev pub marked_rule : {K : Type 0} → ℕ → ℕ → Row K → Mark → Result K Told
+marked_rule n i r wanted =
+    refuse (nat_le n i) (no_such_row i) (refuse (not (held r.mark)) (is_free i) (refuse (not (same_mark r.mark wanted)) (wrong_way i) (Ok r.figure)))
 
 module _ {K : Type 0} (ms : List ℕ) (xs : List K) where
   -- the row i gets this mark and the figure; or, refused, all stays

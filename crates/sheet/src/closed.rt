@@ -4,9 +4,8 @@ ghost use Rattle.sheet.specs.Refusals.{answered};
 ghost use Rattle.sheet.specs.Sheets.{as_row, row_read, reopens, reopening, totalled, averaged, compared};
 
 use crate::heads::{ClosedSheet, OpenSheet};
-use crate::refusal::{Refusal, own_memory};
-use crate::rows::read_row;
-use crate::totals::{mean_of, total_of};
+use crate::refusal::Refusal;
+use crate::rows::Rows;
 use kinds::kind::Kind;
 use ledger::mark::Mark;
 
@@ -20,35 +19,32 @@ impl ClosedSheet {
     ) -> Result<(Mark, K), Refusal>
         ensures { answered result ≡ as_row (row_read K.Kind.means marks.now figures.now self.now.len row) }
     {
-        own_memory(self.len, marks.len(), figures.len())?;
-        read_row(marks, figures, row)
+        Rows::of(self.len, marks, figures)?.read(row)
     }
 
     // The turned rows, added up in row order from zero.
     pub fn total<K: Kind>(&self, marks: &[u8], figures: &[K]) -> Result<K, Refusal>
         ensures { answered result ≡ totalled K.Kind.means marks.now figures.now self.now.len }
     {
-        own_memory(self.len, marks.len(), figures.len())?;
-        total_of(marks, figures)
+        Rows::of(self.len, marks, figures)?.total()
     }
 
     // The total over the count of turned rows.
     pub fn mean<K: Kind>(&self, marks: &[u8], figures: &[K]) -> Result<K, Refusal>
         ensures { answered result ≡ averaged K.Kind.means marks.now figures.now self.now.len }
     {
-        own_memory(self.len, marks.len(), figures.len())?;
-        mean_of(marks, figures)
+        Rows::of(self.len, marks, figures)?.mean()
     }
 
     // Whether the total is greater than the limit.
     pub fn exceeds<K: Kind>(&self, marks: &[u8], figures: &[K], limit: K) -> Result<bool, Refusal>
         ensures { answered result ≡ compared K.Kind.means marks.now figures.now self.now.len limit }
     {
-        own_memory(self.len, marks.len(), figures.len())?;
+        let rows = Rows::of(self.len, marks, figures)?;
         if !limit.is_number() {
             return Err(Refusal::NoLimit);
         }
-        let total = total_of(marks, figures)?;
+        let total = rows.total()?;
         Ok(total.greater(limit))
     }
 
@@ -60,10 +56,9 @@ impl ClosedSheet {
     ) -> Result<OpenSheet, (ClosedSheet, Refusal)>
         ensures { reopens result ≡ reopening K.Kind.means marks.now figures.now self.len }
     {
-        if let Err(refusal) = own_memory(self.len, marks.len(), figures.len()) {
-            return Err((self, refusal));
+        match Rows::of(self.len, marks, figures) {
+            Ok(_) => Ok(OpenSheet { len: self.len }),
+            Err(refusal) => Err((self, refusal)),
         }
-        let ClosedSheet { len } = self;
-        Ok(OpenSheet { len })
     }
 }

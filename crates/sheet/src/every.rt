@@ -1,68 +1,67 @@
 //! The calls on every row, over the slices of one sheet.
-ghost use Rattle.std.specs.Prelude.{◌≡◌, true, map, length, replicate, if◌then◌else◌, Ok};
+ghost use Rattle.std.specs.Prelude.{◌≡◌, true, map, position, length, replicate, if◌then◌else◌, Ok};
 ghost use Rattle.ledger.specs.Marks.{is_plain, mark_of};
-ghost use Rattle.ledger.specs.Rules.{close_rule, not_plain, on_all_rule, convertible};
+ghost use Rattle.ledger.specs.Rules.{close_rule, on_all_rule, convertible};
 ghost use Rattle.sheet.specs.Refusals.{answered};
 ghost use Rattle.sheet.specs.Sheets.{rows_of, mark_on, figures_on};
 
 use crate::refusal::{Refusal, at_row};
+use crate::rows::Rows;
 use conversion::conversion::Conversion;
+use kinds::kind::Kind;
 use ledger::mark::Mark;
 
-// Every element becomes `x`.
-pub(crate) fn fill<T: Copy>(slice: &mut [T], x: T)
-    ensures { slice.new ≡ replicate (length slice.old) x }
+// Every figure becomes zero.
+// Stays a `fill_with`: a `fill` asks for a `clone` that cannot fail, which the bound of a kind does not say.
+pub(crate) fn fill_zero<K: Kind>(figures: &mut [K])
+    ensures { figures.new ≡ replicate (length figures.old) K.Kind.means.nought }
 {
-    for element in slice.iter_mut() {
-        *element = x;
+    let zero = K::zero();
+    figures.fill_with(|| zero);
+}
+
+impl<K> Rows<'_, '_, K> {
+    // The first plain row.
+    fn first_plain(&self) -> Option<usize>
+        ensures { result ≡ position (λ m. is_plain (mark_of m)) self.now.marks.now }
+    {
+        self.marks
+            .iter()
+            .position(|byte| Mark::from(*byte) == Mark::Plain)
+    }
+
+    // What a close finds: no plain row.
+    #[tactic(auto, using(crate::proofs::Means::first_plain))]
+    pub(crate) fn none_plain(&self) -> Result<(), Refusal>
+        ensures { answered result ≡ close_rule (rows_of self.now.marks.now self.now.figures.now) }
+    {
+        match self.first_plain() {
+            Some(row) => Err(Refusal::StillPlain(row)),
+            None => Ok(()),
+        }
     }
 }
 
-// What a close finds at one row.
-fn not_plain(row: usize, byte: u8) -> Result<(), Refusal>
-    ensures { answered result ≡ not_plain row (mark_of byte) }
-{
-    match Mark::of(byte) {
-        Mark::Plain => Err(Refusal::StillPlain(row)),
-        Mark::Free => Ok(()),
-        Mark::Turned => Ok(()),
+impl<K: Kind> Rows<'_, '_, K> {
+    // Whether the conversion takes the figure of every plain row.
+    pub(crate) fn all_convertible<C: Conversion<Figure = K>>(&self, c: &C) -> Result<(), Refusal>
+        ensures { answered result ≡ on_all_rule K.Kind.means (C.Conversion.rule c.now) (rows_of self.now.marks.now self.now.figures.now) }
+    {
+        for (row, (byte, x)) in self.marks.iter().zip(self.figures).enumerate() {
+            is_convertible(c, row, *byte, *x)?;
+        }
+        Ok(())
     }
-}
-
-// What a close finds.
-pub(crate) fn none_plain<K>(marks: &[u8], figures: &[K]) -> Result<(), Refusal>
-    requires { length figures.now ≡ length marks.now }
-    ensures { answered result ≡ close_rule (rows_of marks.now figures.now) }
-{
-    for (i, byte) in marks.iter().enumerate() {
-        not_plain(i, *byte)?;
-    }
-    Ok(())
 }
 
 // Whether the conversion takes the figure of a plain row.
 fn is_convertible<C: Conversion>(c: &C, row: usize, byte: u8, x: C::Figure) -> Result<(), Refusal>
     ensures { answered result ≡ convertible C.Figure.Kind.means (C.Conversion.rule c.now) row (record { mark = mark_of byte; figure = x }) tt }
 {
-    if Mark::of(byte) != Mark::Plain {
+    if Mark::from(byte) != Mark::Plain {
         return Ok(());
     }
     at_row(c.on(x), row)?;
-    Ok(())
-}
-
-// Whether the conversion takes the figure of every plain row.
-pub(crate) fn all_convertible<C: Conversion>(
-    marks: &[u8],
-    figures: &[C::Figure],
-    c: &C,
-) -> Result<(), Refusal>
-    requires { length figures.now ≡ length marks.now }
-    ensures { answered result ≡ on_all_rule C.Figure.Kind.means (C.Conversion.rule c.now) (rows_of marks.now figures.now) }
-{
-    for (i, byte) in marks.iter().enumerate() {
-        is_convertible(c, i, *byte, figures[i])?;
-    }
     Ok(())
 }
 
@@ -72,25 +71,24 @@ fn turned_row<C: Conversion>(c: &C, byte: u8, x: C::Figure) -> (u8, C::Figure)
     ensures mark { result.0 ≡ mark_on byte }
     ensures figure { result.1 ≡ (if is_plain (mark_of byte) then (C.Conversion.rule c.now).on x else x) }
 {
-    if Mark::of(byte) != Mark::Plain {
+    if Mark::from(byte) != Mark::Plain {
         return (byte, x);
     }
     match c.on(x) {
-        Ok(y) => (Mark::Turned.byte(), y),
+        Ok(y) => (Mark::Turned.into(), y),
         Err(_) => (byte, x),
     }
 }
 
 // Turns every plain row.
+// Stays indexed at the figures: after a loop over two `iter_mut` in a `zip`, a proof knows no element of either slice.
 pub(crate) fn turn_all<C: Conversion>(marks: &mut [u8], figures: &mut [C::Figure], c: &C)
     requires lengths { length figures.old ≡ length marks.old }
     requires convertible { on_all_rule C.Figure.Kind.means (C.Conversion.rule c.now) (rows_of marks.old figures.old) ≡ Ok tt }
     ensures marks { marks.new ≡ map mark_on marks.old }
     ensures figures { figures.new ≡ figures_on (C.Conversion.rule c.now) marks.old figures.old }
 {
-    for i in 0..marks.len() {
-        let (byte, x) = turned_row(c, marks[i], figures[i]);
-        marks[i] = byte;
-        figures[i] = x;
+    for (row, byte) in marks.iter_mut().enumerate() {
+        (*byte, figures[row]) = turned_row(c, *byte, figures[row]);
     }
 }

@@ -9,6 +9,7 @@ pub struct OpenSheet {
 }
 
 // The head of a closed sheet.
+// Stays a type of its own beside `OpenSheet`, so that a call that the sheet has not does not compile.
 #[derive(Drop)]
 pub struct ClosedSheet {
     pub(crate) len: usize,

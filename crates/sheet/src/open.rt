@@ -3,10 +3,10 @@ ghost use Rattle.std.specs.Prelude.{◌≡◌};
 ghost use Rattle.sheet.specs.Refusals.{answered};
 ghost use Rattle.sheet.specs.Sheets.{left, opens, opened, entered, turned_on, all_turned_on, turned_back, cleared, as_row, row_read, closes, closing};
 
-use crate::every::{all_convertible, fill, none_plain, turn_all};
+use crate::every::{fill_zero, turn_all};
 use crate::heads::{ClosedSheet, OpenSheet};
-use crate::refusal::{Refusal, own_memory};
-use crate::rows::{clear_row, enter_row, read_row, return_row, turn_row};
+use crate::refusal::Refusal;
+use crate::rows::{Rows, write};
 use conversion::conversion::Conversion;
 use kinds::kind::Kind;
 use ledger::mark::Mark;
@@ -19,8 +19,8 @@ pub fn open<K: Kind>(marks: &mut [u8], figures: &mut [K]) -> Result<OpenSheet, R
     if figures.len() != len || len < 1 || len > 4096 {
         return Err(Refusal::Memory);
     }
-    fill(marks, Mark::Free.byte());
-    fill(figures, K::zero());
+    marks.fill(Mark::Free.into());
+    fill_zero(figures);
     Ok(OpenSheet { len })
 }
 
@@ -36,8 +36,9 @@ impl OpenSheet {
         ensures call { left result marks.new figures.new ≡ entered K.Kind.means marks.old figures.old self.old.len row x }
         ensures head { self.new ≡ self.old }
     {
-        own_memory(self.len, marks.len(), figures.len())?;
-        enter_row(marks, figures, row, x)
+        let x = Rows::of(self.len, marks, figures)?.entered(row, x)?;
+        write(marks, figures, row, Mark::Plain, x);
+        Ok(())
     }
 
     // The conversion on to a plain row, which becomes turned.
@@ -51,8 +52,10 @@ impl OpenSheet {
         ensures call { left result marks.new figures.new ≡ turned_on C.Figure.Kind.means marks.old figures.old self.old.len (C.Conversion.rule c.now) row }
         ensures head { self.new ≡ self.old }
     {
-        own_memory(self.len, marks.len(), figures.len())?;
-        turn_row(marks, figures, c, row)
+        let rows = Rows::of(self.len, marks, figures)?;
+        let x = rows.converted(row, Mark::Plain, |x| c.on(x))?;
+        write(marks, figures, row, Mark::Turned, x);
+        Ok(())
     }
 
     // The conversion on to every plain row, or to none.
@@ -65,8 +68,7 @@ impl OpenSheet {
         ensures call { left result marks.new figures.new ≡ all_turned_on C.Figure.Kind.means marks.old figures.old self.old.len (C.Conversion.rule c.now) }
         ensures head { self.new ≡ self.old }
     {
-        own_memory(self.len, marks.len(), figures.len())?;
-        all_convertible(marks, figures, c)?;
+        Rows::of(self.len, marks, figures)?.all_convertible(c)?;
         turn_all(marks, figures, c);
         Ok(())
     }
@@ -82,8 +84,10 @@ impl OpenSheet {
         ensures call { left result marks.new figures.new ≡ turned_back C.Figure.Kind.means marks.old figures.old self.old.len (C.Conversion.rule c.now) row }
         ensures head { self.new ≡ self.old }
     {
-        own_memory(self.len, marks.len(), figures.len())?;
-        return_row(marks, figures, c, row)
+        let rows = Rows::of(self.len, marks, figures)?;
+        let x = rows.converted(row, Mark::Turned, |x| c.back(x))?;
+        write(marks, figures, row, Mark::Plain, x);
+        Ok(())
     }
 
     // A held row becomes free, with figure zero.
@@ -96,8 +100,9 @@ impl OpenSheet {
         ensures call { left result marks.new figures.new ≡ cleared K.Kind.means marks.old figures.old self.old.len row }
         ensures head { self.new ≡ self.old }
     {
-        own_memory(self.len, marks.len(), figures.len())?;
-        clear_row(marks, figures, row)
+        let x = Rows::of(self.len, marks, figures)?.cleared(row)?;
+        write(marks, figures, row, Mark::Free, x);
+        Ok(())
     }
 
     // The mark and the figure of a row.
@@ -109,8 +114,7 @@ impl OpenSheet {
     ) -> Result<(Mark, K), Refusal>
         ensures { answered result ≡ as_row (row_read K.Kind.means marks.now figures.now self.now.len row) }
     {
-        own_memory(self.len, marks.len(), figures.len())?;
-        read_row(marks, figures, row)
+        Rows::of(self.len, marks, figures)?.read(row)
     }
 
     // A sheet with no plain row becomes closed; a refused close gives the open sheet back.
@@ -121,13 +125,9 @@ impl OpenSheet {
     ) -> Result<ClosedSheet, (OpenSheet, Refusal)>
         ensures { closes result ≡ closing K.Kind.means marks.now figures.now self.len }
     {
-        if let Err(refusal) = own_memory(self.len, marks.len(), figures.len()) {
-            return Err((self, refusal));
+        match Rows::of(self.len, marks, figures).and_then(|rows| rows.none_plain()) {
+            Ok(()) => Ok(ClosedSheet { len: self.len }),
+            Err(refusal) => Err((self, refusal)),
         }
-        if let Err(refusal) = none_plain(marks, figures) {
-            return Err((self, refusal));
-        }
-        let OpenSheet { len } = self;
-        Ok(ClosedSheet { len })
     }
 }

@@ -2,7 +2,7 @@ ghost use Rattle.std.specs.Prelude.{◌≡◌, pos};
 ghost use Rattle.std.specs.Option.{option_map};
 ghost use Rattle.conversion.specs.Refusals.{answered as converted};
 ghost use Rattle.ledger.specs.Refusals.{at_row};
-ghost use Rattle.sheet.specs.Refusals.{told, answered, own_memory, row_named};
+ghost use Rattle.sheet.specs.Refusals.{told, answered, row_named};
 
 use conversion::refusal::Refusal as Cause;
 use refusals::Numbered;
@@ -63,18 +63,16 @@ impl Refusal {
         ensures { option_map pos result ≡ row_named (told self.now) }
     {
         match *self {
-            Refusal::Memory => None,
-            Refusal::NoSuchRow(row) => Some(row),
-            Refusal::Held(row) => Some(row),
-            Refusal::NotANumber(row) => Some(row),
-            Refusal::Free(row) => Some(row),
-            Refusal::WrongWay(row) => Some(row),
-            Refusal::Unconverted(row, _) => Some(row),
-            Refusal::StillPlain(row) => Some(row),
-            Refusal::NotFinite(row) => Some(row),
-            Refusal::SumInfinite(row) => Some(row),
-            Refusal::NothingTurned => None,
-            Refusal::NoLimit => None,
+            Refusal::NoSuchRow(row)
+            | Refusal::Held(row)
+            | Refusal::NotANumber(row)
+            | Refusal::Free(row)
+            | Refusal::WrongWay(row)
+            | Refusal::StillPlain(row)
+            | Refusal::NotFinite(row)
+            | Refusal::SumInfinite(row)
+            | Refusal::Unconverted(row, _) => Some(row),
+            Refusal::Memory | Refusal::NothingTurned | Refusal::NoLimit => None,
         }
     }
 }
@@ -83,18 +81,5 @@ impl Refusal {
 pub(crate) fn at_row<K>(answer: Result<K, Cause>, row: usize) -> Result<K, Refusal>
     ensures { answered result ≡ at_row row (converted answer) }
 {
-    match answer {
-        Ok(x) => Ok(x),
-        Err(cause) => Err(Refusal::Unconverted(row, cause)),
-    }
-}
-
-// Whether two slices of these lengths are those of a sheet of `len` rows.
-pub(crate) fn own_memory(len: usize, marks: usize, figures: usize) -> Result<(), Refusal>
-    ensures { answered result ≡ own_memory len marks figures }
-{
-    if marks != len || figures != len {
-        return Err(Refusal::Memory);
-    }
-    Ok(())
+    answer.map_err(|cause| Refusal::Unconverted(row, cause))
 }

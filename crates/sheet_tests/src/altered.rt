@@ -1,5 +1,5 @@
 //! Memory that was altered outside the calls: 4 from on and on_all, 7 from back, 9 for what is no number.
-use crate::same::{closed, refused_at, same};
+use crate::same::{passed, refused_at, same};
 use conversion::chain::Chain;
 use conversion::conversion::Conversion;
 use conversion::flip::Flip;
@@ -88,7 +88,7 @@ fn no_number_in_totals(rt: HostRuntime) -> Result<(), Fail> {
     let mut marks = [0u8; 2];
     let mut figures = [0i64; 2];
     let sheet = open(&mut marks, &mut figures)?;
-    let settled = closed(sheet.close(&marks, &figures))?;
+    let settled = passed(sheet.close(&marks, &figures))?;
     marks[1] = 2;
     figures[1] = i64::MAX;
     refused_at(&rt, settled.total(&marks, &figures), 9, 1)?;

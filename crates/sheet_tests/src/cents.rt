@@ -1,5 +1,5 @@
 //! Sheets of whole cents.
-use crate::same::{closed, refused, refused_at, reopened, still_closed, still_open};
+use crate::same::{kept, passed, refused, refused_at};
 use conversion::chain::Chain;
 use conversion::conversion::Conversion;
 use conversion::flip::Flip;
@@ -20,7 +20,7 @@ fn reversed(rt: HostRuntime) -> Result<(), Fail> {
     sheet.enter(&mut marks, &mut figures, 0, 5)?;
     sheet.enter(&mut marks, &mut figures, 2, -8)?;
     sheet.on_all(&mut marks, &mut figures, &Reversal)?;
-    let settled = closed(sheet.close(&marks, &figures))?;
+    let settled = passed(sheet.close(&marks, &figures))?;
     assert_eq!(rt; settled.total(&marks, &figures)?, 3);
     assert_eq!(rt; settled.mean(&marks, &figures)?, 1);
     assert_eq!(rt; settled.exceeds(&marks, &figures, 2)?, true);
@@ -74,7 +74,7 @@ fn numbers(rt: HostRuntime) -> Result<(), Fail> {
     sheet.enter(&mut marks, &mut figures, 0, -LIMIT)?;
     sheet.on(&mut marks, &mut figures, &Reversal, 0)?;
     assert_eq!(rt; figures[0], LIMIT);
-    let settled = closed(sheet.close(&marks, &figures))?;
+    let settled = passed(sheet.close(&marks, &figures))?;
     refused(&rt, settled.exceeds(&marks, &figures, LIMIT + 1), 12)?;
     assert_eq!(rt; settled.exceeds(&marks, &figures, LIMIT)?, false);
     assert_eq!(rt; settled.exceeds(&marks, &figures, LIMIT - 1)?, true);
@@ -89,7 +89,7 @@ fn full_sheet(rt: HostRuntime) -> Result<(), Fail> {
     let mut sheet = open(&mut marks, &mut figures)?;
     enter_all(&mut sheet, &mut marks, &mut figures)?;
     sheet.on_all(&mut marks, &mut figures, &Reversal)?;
-    let settled = closed(sheet.close(&marks, &figures))?;
+    let settled = passed(sheet.close(&marks, &figures))?;
     assert_eq!(rt; settled.total(&marks, &figures)?, 4_096_000_000_000_000_000);
     assert_eq!(rt; settled.mean(&marks, &figures)?, LIMIT);
     assert_eq!(rt; settled.exceeds(&marks, &figures, LIMIT)?, true);
@@ -111,22 +111,22 @@ fn closing(rt: HostRuntime) -> Result<(), Fail> {
     let mut sheet = open(&mut marks, &mut figures)?;
     sheet.enter(&mut marks, &mut figures, 1, 7)?;
     sheet.enter(&mut marks, &mut figures, 3, 9)?;
-    let mut sheet = still_open(&rt, sheet.close(&marks, &figures), 8, Some(1))?;
+    let mut sheet = kept(&rt, sheet.close(&marks, &figures), 8, Some(1))?;
     sheet.on(&mut marks, &mut figures, &Reversal, 1)?;
-    let mut sheet = still_open(&rt, sheet.close(&marks, &figures), 8, Some(3))?;
+    let mut sheet = kept(&rt, sheet.close(&marks, &figures), 8, Some(3))?;
     sheet.on(&mut marks, &mut figures, &Reversal, 3)?;
-    let sheet = still_open(&rt, sheet.close(&marks[0..3], &figures), 1, None)?;
-    let settled = closed(sheet.close(&marks, &figures))?;
+    let sheet = kept(&rt, sheet.close(&marks[0..3], &figures), 1, None)?;
+    let settled = passed(sheet.close(&marks, &figures))?;
     refused(&rt, settled.total(&marks, &figures[0..2]), 1)?;
     refused(&rt, settled.mean(&marks[0..2], &figures), 1)?;
     refused(&rt, settled.exceeds(&marks[0..2], &figures[0..2], 0), 1)?;
     refused(&rt, settled.read(&marks[0..2], &figures, 0), 1)?;
     refused_at(&rt, settled.read(&marks, &figures, 4), 2, 4)?;
-    let settled = still_closed(&rt, settled.reopen(&marks, &figures[0..1]), 1)?;
+    let settled = kept(&rt, settled.reopen(&marks, &figures[0..1]), 1, None)?;
     assert_eq!(rt; settled.total(&marks, &figures)?, -16);
-    let mut sheet = reopened(settled.reopen(&marks, &figures))?;
+    let mut sheet = passed(settled.reopen(&marks, &figures))?;
     sheet.clear(&mut marks, &mut figures, 3)?;
-    let settled = closed(sheet.close(&marks, &figures))?;
+    let settled = passed(sheet.close(&marks, &figures))?;
     assert_eq!(rt; settled.total(&marks, &figures)?, -7);
     Ok(())
 }

@@ -1,5 +1,5 @@
 //! Sheets of f64.
-use crate::same::{closed, refused, refused_at, same, still_open};
+use crate::same::{kept, passed, refused, refused_at, same};
 use function_conversions::pair::By;
 use function_conversions::sinh::Sinh;
 use function_conversions::tanh::Tanh;
@@ -24,7 +24,7 @@ fn tanh_of(rt: &impl Abort, entered: [f64; 3]) -> Result<(), Fail> {
     sheet.enter(&mut marks, &mut figures, 1, entered[1])?;
     sheet.enter(&mut marks, &mut figures, 2, entered[2])?;
     sheet.on_all(&mut marks, &mut figures, &tanh)?;
-    let settled = closed(sheet.close(&marks, &figures))?;
+    let settled = passed(sheet.close(&marks, &figures))?;
     same(rt, settled.total(&marks, &figures)?, 0.0);
     same(rt, settled.mean(&marks, &figures)?, 0.0);
     Ok(())
@@ -38,10 +38,10 @@ fn infinite_score(rt: HostRuntime) -> Result<(), Fail> {
     let mut figures = [0.0f64; 2];
     let mut sheet = open(&mut marks, &mut figures)?;
     sheet.enter(&mut marks, &mut figures, 0, 800.0)?;
-    let mut sheet = still_open(&rt, sheet.close(&marks, &figures), 8, Some(0))?;
+    let mut sheet = kept(&rt, sheet.close(&marks, &figures), 8, Some(0))?;
     sheet.on_all(&mut marks, &mut figures, &sinh)?;
     same(&rt, figures[0], f64::INFINITY);
-    let settled = closed(sheet.close(&marks, &figures))?;
+    let settled = passed(sheet.close(&marks, &figures))?;
     refused_at(&rt, settled.total(&marks, &figures), 9, 0)?;
     refused_at(&rt, settled.mean(&marks, &figures), 9, 0)?;
     refused_at(&rt, settled.exceeds(&marks, &figures, 1.0), 9, 0)?;
@@ -54,7 +54,7 @@ fn empty(rt: HostRuntime) -> Result<(), Fail> {
     let mut marks = [0u8; 1];
     let mut figures = [0.0f64; 1];
     let sheet = open(&mut marks, &mut figures)?;
-    let settled = closed(sheet.close(&marks, &figures))?;
+    let settled = passed(sheet.close(&marks, &figures))?;
     same(&rt, settled.total(&marks, &figures)?, 0.0);
     refused(&rt, settled.mean(&marks, &figures), 11)?;
     assert_eq!(rt; settled.exceeds(&marks, &figures, -0.0)?, false);
@@ -73,7 +73,7 @@ fn infinite_sum(rt: HostRuntime) -> Result<(), Fail> {
     sheet.enter(&mut marks, &mut figures, 1, f64::MAX)?;
     sheet.enter(&mut marks, &mut figures, 2, f64::INFINITY)?;
     sheet.on_all(&mut marks, &mut figures, &one)?;
-    let settled = closed(sheet.close(&marks, &figures))?;
+    let settled = passed(sheet.close(&marks, &figures))?;
     refused_at(&rt, settled.total(&marks, &figures), 10, 1)?;
     refused_at(&rt, settled.mean(&marks, &figures), 10, 1)?;
     refused_at(&rt, settled.exceeds(&marks, &figures, 0.0), 10, 1)
@@ -104,6 +104,6 @@ fn total_of(entered: [f64; 3]) -> Result<f64, Fail> {
     sheet.enter(&mut marks, &mut figures, 1, entered[1])?;
     sheet.enter(&mut marks, &mut figures, 2, entered[2])?;
     sheet.on_all(&mut marks, &mut figures, &one)?;
-    let settled = closed(sheet.close(&marks, &figures))?;
+    let settled = passed(sheet.close(&marks, &figures))?;
     Ok(settled.total(&marks, &figures)?)
 }

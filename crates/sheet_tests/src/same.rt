@@ -1,5 +1,4 @@
 use refusals::Numbered;
-use sheet::heads::{ClosedSheet, OpenSheet};
 use sheet::refusal::Refusal;
 use std::num::f64_to_bits_with_nan;
 use std::process::Abort;
@@ -22,10 +21,8 @@ pub(crate) fn refused<T: Drop>(
     answer: Result<T, Refusal>,
     number: u8,
 ) -> Result<(), Fail> {
-    match answer {
-        Ok(_) => Err(Fail::new("not refused")),
-        Err(refusal) => is(rt, refusal, number, None),
-    }
+    let refusal = answer.err().ok_or("not refused")?;
+    is(rt, refusal, number, None)
 }
 
 // Whether an answer is the refusal with this number at this row.
@@ -35,59 +32,24 @@ pub(crate) fn refused_at<T: Drop>(
     number: u8,
     row: usize,
 ) -> Result<(), Fail> {
-    match answer {
-        Ok(_) => Err(Fail::new("not refused")),
-        Err(refusal) => is(rt, refusal, number, Some(row)),
-    }
+    let refusal = answer.err().ok_or("not refused")?;
+    is(rt, refusal, number, Some(row))
 }
 
-pub(crate) fn closed(
-    answer: Result<ClosedSheet, (OpenSheet, Refusal)>,
-) -> Result<ClosedSheet, Fail> {
-    match answer {
-        Ok(sheet) => Ok(sheet),
-        Err(_) => Err(Fail::new("not closed")),
-    }
+// The head that a close or a reopen gave.
+pub(crate) fn passed<A: Drop, B: Drop>(answer: Result<A, (B, Refusal)>) -> Result<A, Fail> {
+    let head = answer.ok().ok_or("refused")?;
+    Ok(head)
 }
 
-pub(crate) fn reopened(
-    answer: Result<OpenSheet, (ClosedSheet, Refusal)>,
-) -> Result<OpenSheet, Fail> {
-    match answer {
-        Ok(sheet) => Ok(sheet),
-        Err(_) => Err(Fail::new("not reopened")),
-    }
-}
-
-// The open sheet that a refused close gave back.
-pub(crate) fn still_open(
+// The head that a refused close or reopen gave back.
+pub(crate) fn kept<A: Drop, B: Drop>(
     rt: &impl Abort,
-    answer: Result<ClosedSheet, (OpenSheet, Refusal)>,
+    answer: Result<A, (B, Refusal)>,
     number: u8,
     row: Option<usize>,
-) -> Result<OpenSheet, Fail> {
-    match answer {
-        Ok(_) => Err(Fail::new("closed")),
-        Err(kept) => {
-            let (sheet, refusal) = kept;
-            is(rt, refusal, number, row)?;
-            Ok(sheet)
-        }
-    }
-}
-
-// The closed sheet that a refused reopen gave back.
-pub(crate) fn still_closed(
-    rt: &impl Abort,
-    answer: Result<OpenSheet, (ClosedSheet, Refusal)>,
-    number: u8,
-) -> Result<ClosedSheet, Fail> {
-    match answer {
-        Ok(_) => Err(Fail::new("reopened")),
-        Err(kept) => {
-            let (sheet, refusal) = kept;
-            is(rt, refusal, number, None)?;
-            Ok(sheet)
-        }
-    }
+) -> Result<B, Fail> {
+    let (head, refusal) = answer.err().ok_or("not refused")?;
+    is(rt, refusal, number, row)?;
+    Ok(head)
 }

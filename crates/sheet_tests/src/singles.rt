@@ -1,5 +1,5 @@
 //! Sheets of f32.
-use crate::same::{closed, refused, refused_at, still_open};
+use crate::same::{kept, passed, refused, refused_at};
 use conversion::conversion::Conversion;
 use function_conversions::expm1f::Expm1f;
 use function_conversions::pair::By;
@@ -24,7 +24,7 @@ fn singles(rt: HostRuntime) -> Result<(), Fail> {
     sheet.on_all(&mut marks, &mut figures, &expm1f)?;
     sheet.enter(&mut marks, &mut figures, 3, 100.0)?;
     sheet.on(&mut marks, &mut figures, &expm1f, 3)?;
-    let settled = closed(sheet.close(&marks, &figures))?;
+    let settled = passed(sheet.close(&marks, &figures))?;
     refused_at(&rt, settled.total(&marks, &figures), 9, 3)?;
     marks[3] = 0;
     assert_eq!(rt; settled.total(&marks, &figures)?, -1.0f32);
@@ -47,9 +47,9 @@ fn by_the_calls(rt: HostRuntime) -> Result<(), Fail> {
     sheet.enter(&mut marks, &mut figures, 0, 88.5)?;
     refused_at(&rt, sheet.enter(&mut marks, &mut figures, 0, 1.0), 3, 0)?;
     refused_at(&rt, sheet.back(&mut marks, &mut figures, &expm1f, 0), 6, 0)?;
-    let mut sheet = still_open(&rt, sheet.close(&marks, &figures), 8, Some(0))?;
+    let mut sheet = kept(&rt, sheet.close(&marks, &figures), 8, Some(0))?;
     sheet.clear(&mut marks, &mut figures, 0)?;
-    let settled = closed(sheet.close(&marks, &figures))?;
+    let settled = passed(sheet.close(&marks, &figures))?;
     refused(&rt, settled.mean(&marks, &figures), 11)?;
     refused(&rt, settled.exceeds(&marks, &figures, f32::NAN), 12)
 }
@@ -63,7 +63,7 @@ fn infinite_sum(rt: HostRuntime) -> Result<(), Fail> {
     sheet.enter(&mut marks, &mut figures, 0, 88.5)?;
     sheet.enter(&mut marks, &mut figures, 1, 88.5)?;
     sheet.on_all(&mut marks, &mut figures, &expm1f)?;
-    let settled = closed(sheet.close(&marks, &figures))?;
+    let settled = passed(sheet.close(&marks, &figures))?;
     refused_at(&rt, settled.total(&marks, &figures), 10, 1)
 }
 
@@ -82,6 +82,6 @@ fn altered(rt: HostRuntime) -> Result<(), Fail> {
     figures[0] = -1.5;
     refused_at(&rt, sheet.back(&mut marks, &mut figures, &expm1f, 0), 7, 0)?;
     figures[0] = f32::NAN;
-    let settled = closed(sheet.close(&marks, &figures))?;
+    let settled = passed(sheet.close(&marks, &figures))?;
     refused_at(&rt, settled.total(&marks, &figures), 9, 0)
 }

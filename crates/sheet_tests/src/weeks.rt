@@ -3,7 +3,7 @@ use conversion::reversal::Reversal;
 use ledger::call::{Call, Listed};
 use ledger::mark::Mark;
 use refusals::Numbered;
-use std::process::Abort;
+use sheet::refusal::Refusal;
 use std::test::Fail;
 use week::answer::Answer;
 use week::carry::Stop;
@@ -12,51 +12,7 @@ use week::mirror::mirrored;
 use week::run::carry_out;
 
 fn own(call: Call<i64>) -> Listed<i64> {
-    Listed {
-        marks: 3,
-        figures: 3,
-        call,
-    }
-}
-
-fn done(answer: &Answer<i64>) -> Result<(), Fail> {
-    match answer {
-        Answer::Done => Ok(()),
-        _ => Err(Fail::new("not done")),
-    }
-}
-
-fn amount(rt: &impl Abort, answer: &Answer<i64>, expected: i64) -> Result<(), Fail> {
-    match answer {
-        Answer::Amount(x) => {
-            assert_eq!(rt; *x, expected);
-            Ok(())
-        },
-        _ => Err(Fail::new("no amount")),
-    }
-}
-
-fn refused(
-    rt: &impl Abort,
-    answer: &Answer<i64>,
-    number: u8,
-    row: Option<usize>,
-) -> Result<(), Fail> {
-    match answer {
-        Answer::Refused(refusal) => {
-            assert_eq!(rt; refusal.number(), number);
-            assert_eq!(rt; refusal.row(), row);
-            Ok(())
-        }
-        _ => Err(Fail::new("not refused")),
-    }
-}
-
-fn left_out(answer: &Answer<i64>) -> Result<(), Fail> {
-    match answer {
-        Answer::LeftOut => Ok(()),
-        _ => Err(Fail::new("not left out")),
-    }
+    Listed::own(3, call)
 }
 
 const WEEK: [Call<i64>; 12] = [
@@ -78,39 +34,29 @@ const WEEK: [Call<i64>; 12] = [
 #[test]
 fn listed(rt: HostRuntime) -> Result<(), Fail> {
     let heap = rt.alloc();
-    let mut calls = Vec::new(heap);
-    for call in WEEK {
-        calls.push(own(call))?;
-    }
+    let calls: Vec<Listed<i64>> = WEEK.iter().map(|call| own(*call)).collect(heap)?;
     let mut marks = [7u8; 3];
     let mut figures = [7i64; 3];
-    let Ok(week) = carry_out(heap, &Reversal, &calls, &mut marks, &mut figures) else {
-        return Err(Fail::new("not carried out"));
-    };
-    let [a, b, c, d, e, f, g, h, i, j, k, l] = week.answers.as_slice() else {
-        return Err(Fail::new("not as many answers"));
-    };
-    done(a)?;
-    refused(&rt, b, 3, Some(0))?;
-    left_out(c)?;
-    done(d)?;
-    refused(&rt, e, 8, Some(0))?;
-    done(f)?;
-    done(g)?;
-    left_out(h)?;
-    amount(&rt, i, 3)?;
-    amount(&rt, j, 1)?;
-    match k {
-        Answer::Verdict(exceeds) => assert_eq!(rt; *exceeds, false),
-        _ => return Err(Fail::new("no verdict")),
-    }
-    match l {
-        Answer::Row(mark, x) => {
-            assert_eq!(rt; *mark, Mark::Turned);
-            assert_eq!(rt; *x, 8);
-        }
-        _ => return Err(Fail::new("no row")),
-    }
+    let week = carry_out(heap, &Reversal, &calls, &mut marks, &mut figures)?;
+    let held = Refusal::Held(0);
+    let plain = Refusal::StillPlain(0);
+    assert_eq!(rt; held.number(), 3);
+    assert_eq!(rt; plain.number(), 8);
+    let answers = [
+        Answer::Done,
+        Answer::Refused(held),
+        Answer::LeftOut,
+        Answer::Done,
+        Answer::Refused(plain),
+        Answer::Done,
+        Answer::Done,
+        Answer::LeftOut,
+        Answer::Amount(3),
+        Answer::Amount(1),
+        Answer::Verdict(false),
+        Answer::Row(Mark::Turned, 8),
+    ];
+    assert_eq!(rt; week.answers.as_slice(), answers.as_slice());
     assert_eq!(rt; marks[1], 0);
     assert_eq!(rt; figures[1], 0);
     assert_eq!(rt; figures[0], -5);
@@ -141,23 +87,17 @@ fn other_memory(rt: HostRuntime) -> Result<(), Fail> {
     ];
     let mut marks = [0u8; 3];
     let mut figures = [0i64; 3];
-    let Ok(week) = carry_out(rt.alloc(), &Reversal, &calls, &mut marks, &mut figures) else {
-        return Err(Fail::new("not carried out"));
-    };
-    let [a, b, c, d, e] = week.answers.as_slice() else {
-        return Err(Fail::new("not as many answers"));
-    };
-    done(a)?;
-    refused(&rt, b, 1, None)?;
-    refused(&rt, c, 1, None)?;
-    left_out(d)?;
-    match e {
-        Answer::Row(mark, x) => {
-            assert_eq!(rt; *mark, Mark::Plain);
-            assert_eq!(rt; *x, 5);
-        }
-        _ => return Err(Fail::new("no row")),
-    }
+    let week = carry_out(rt.alloc(), &Reversal, &calls, &mut marks, &mut figures)?;
+    assert_eq!(rt; Refusal::Memory.number(), 1);
+    assert_eq!(rt; Refusal::Memory.row(), None);
+    let answers = [
+        Answer::Done,
+        Answer::Refused(Refusal::Memory),
+        Answer::Refused(Refusal::Memory),
+        Answer::LeftOut,
+        Answer::Row(Mark::Plain, 5),
+    ];
+    assert_eq!(rt; week.answers.as_slice(), answers.as_slice());
     assert_eq!(rt; marks[0], 1);
     match week.sheet {
         Sheet::Open(_) => Ok(()),
@@ -170,16 +110,9 @@ fn other_memory(rt: HostRuntime) -> Result<(), Fail> {
 fn no_sheet(rt: HostRuntime) -> Result<(), Fail> {
     let mut marks = [7u8; 3];
     let mut figures = [7i64; 2];
-    match carry_out(
-        rt.alloc(),
-        &Reversal,
-        &[own(Call::OnAll)],
-        &mut marks,
-        &mut figures,
-    ) {
-        Err(Stop::Refused(refusal)) => assert_eq!(rt; refusal.number(), 1),
-        _ => return Err(Fail::new("not refused")),
-    }
+    let calls = [own(Call::OnAll)];
+    let stop = carry_out(rt.alloc(), &Reversal, &calls, &mut marks, &mut figures).err();
+    assert_eq!(rt; stop, Some(Stop::Refused(Refusal::Memory)));
     assert_eq!(rt; marks[2], 7);
     assert_eq!(rt; figures[1], 7);
     Ok(())
@@ -195,25 +128,11 @@ fn mirror(rt: HostRuntime) -> Result<(), Fail> {
         own(Call::Exceeds(4)),
     ];
     let mirror = mirrored(heap, &Reversal, &calls)?;
-    let [a, b, c] = mirror.as_slice() else {
-        return Err(Fail::new("not as many calls"));
-    };
-    match a.call {
-        Call::Enter(row, x) => {
-            assert_eq!(rt; row, 0);
-            assert_eq!(rt; x, -5);
-        }
-        _ => return Err(Fail::new("no enter")),
-    }
-    match b.call {
-        Call::OnAll => {}
-        _ => return Err(Fail::new("no on_all")),
-    }
-    match c.call {
-        Call::Exceeds(limit) => {
-            assert_eq!(rt; limit, 4);
-            Ok(())
-        },
-        _ => Err(Fail::new("no exceeds")),
-    }
+    let turned = [
+        own(Call::Enter(0, -5)),
+        own(Call::OnAll),
+        own(Call::Exceeds(4)),
+    ];
+    assert_eq!(rt; mirror.as_slice(), turned.as_slice());
+    Ok(())
 }

@@ -11,7 +11,8 @@ use Rattle.ledger.specs.Marks.{byte_of, held, is_turned}
 use Rattle.ledger.specs.Refusals.{not_finite, sum_is_infinite}
 use Rattle.ledger.specs.Rules.{Row, refuse, and_then, row_by_row, added}
 use Rattle.ledger.specs.Ledgers.{new_ledger, free_row, ledger_step, run, replies}
-use Rattle.ledger.specs.Mirrors.{Each, Each2, refused_for_figure, turn_held, mirror_row, mirror_ledger, mirror_listed, Alike}
+use Rattle.ledger.specs.Mirrors.{refused_for_figure, turn_held, mirror_row, mirror_ledger, mirror_listed, Alike}
+use Rattle.std.specs.List.{AllByRecursion, AllZip}
 use Rattle.ledger.proofs.Each.{each_also}
 use Rattle.ledger.proofs.Keeping.{Good, GoodAt, came_in, run_good, run_fair, new_good}
 use Rattle.ledger.proofs.Mirroring.{run_mirror, replies_mirror, new_mirror}
@@ -54,8 +55,8 @@ module _ {K : Type 0} (k : Meaning K) (c : Rule K) (lawful : Lawful k) (sound : 
   rows : (calls : List (Listed K)) → rows_after k c n calls ≡ (ledger_after k c n calls).rows
   rows calls = ap (λ s. rows_of s.slices.marks s.slices.figures) (after calls) ∙ rows_shown (ledger_after k c n calls).rows
 
-  good : (calls : List (Listed K)) → Each (Good k c) (rows_after k c n calls)
-  good calls = subst (Each (Good k c)) (sym (rows calls)) (run_good k c sound (new_ledger k n) calls (new_good k c n))
+  good : (calls : List (Listed K)) → AllByRecursion (Good k c) (rows_after k c n calls)
+  good calls = subst (AllByRecursion (Good k c)) (sym (rows calls)) (run_good k c sound (new_ledger k n) calls (new_good k c n))
 
   number_of : (r : Row K) → Good k c r → held r.mark ≡ true → k.number r.figure ≡ true
   number_of r g h = go r.mark r.figure g h
@@ -104,9 +105,9 @@ module _ {K : Type 0} (k : Meaning K) (c : Rule K) (lawful : Lawful k) (sound : 
     figures_turned [] = refl
     figures_turned (r ∷ rows) = ap (λ z. turn_held k r.mark r.figure ∷ z) (figures_turned rows)
 
-    replies_alike : Each2 (Alike k) (ledger_replies k c n calls) (ledger_replies k c n mirror)
+    replies_alike : AllZip (Alike k) (ledger_replies k c n calls) (ledger_replies k c n mirror)
     replies_alike =
-        subst (λ l. Each2 (Alike k) (ledger_replies k c n calls) (replies (ledger_step k c) l mirror)) (new_mirror k c lawful zero_finite sound odd n)
+        subst (λ l. AllZip (Alike k) (ledger_replies k c n calls) (replies (ledger_step k c) l mirror)) (new_mirror k c lawful zero_finite sound odd n)
         (replies_mirror k c lawful zero_finite sound odd calls (new_ledger k n) (new_good k c n) few_new)
 
     week_mirrored : MirroredWeek k c n calls
@@ -115,8 +116,8 @@ module _ {K : Type 0} (k : Meaning K) (c : Rule K) (lawful : Lawful k) (sound : 
       marks = ap (λ s. s.slices.marks) sheet_mirror ∙ marks_same (ledger_after k c n calls).rows ∙ sym (ap (λ s. s.slices.marks) (after calls));
       figures = ap (λ s. s.slices.figures) sheet_mirror ∙ figures_turned (ledger_after k c n calls).rows ∙ sym (ap (map (λ r. turn_held k r.mark r.figure)) (rows calls));
       answers =
-          subst (λ z. Each2 (Alike k) z (sheet_replies k c n mirror)) (sym (answered calls))
-          (subst (λ z. Each2 (Alike k) (ledger_replies k c n calls) z) (sym (answered mirror)) replies_alike);
+          subst (λ z. AllZip (Alike k) z (sheet_replies k c n mirror)) (sym (answered calls))
+          (subst (λ z. AllZip (Alike k) (ledger_replies k c n calls) z) (sym (answered mirror)) replies_alike);
     }
 
   pub law_stands : (calls : List (Listed K)) → Law k c n calls
@@ -126,7 +127,7 @@ module _ {K : Type 0} (k : Meaning K) (c : Rule K) (lawful : Lawful k) (sound : 
     numbers = each_also (Good k c) (λ r. held r.mark ≡ true → k.number r.figure ≡ true) number_of (rows_after k c n calls) (good calls);
     within = each_also (Good k c) (λ r. is_turned r.mark ≡ true → in_range k c r.figure ≡ true) within_of (rows_after k c n calls) (good calls);
     zeros = each_also (Good k c) (λ r. held r.mark ≡ false → r.figure ≡ k.nought) zero_of (rows_after k c n calls) (good calls);
-    fair = subst (λ z. Each2 (λ q a. refused_for_figure q.call a ≡ false) calls z) (sym (answered calls)) (run_fair k c sound (new_ledger k n) calls (new_good k c n));
+    fair = subst (λ z. AllZip (λ q a. refused_for_figure q.call a ≡ false) calls z) (sym (answered calls)) (run_fair k c sound (new_ledger k n) calls (new_good k c n));
     sums = λ s e. total_sums k (rows_after k c n calls) 0 [] s e;
     mirrored = λ zero_finite odd. week_mirrored zero_finite odd calls;
   }

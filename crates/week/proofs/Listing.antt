@@ -1,12 +1,12 @@
 -- A call of a list, with the sheet's own slices or with other memory. Assumes nothing.
-use Rattle.std.proofs.Common.{◌≡◌, ℕ, zero, suc, ◌+◌, ◌<◌, ◌≤◌, Bool, true, false, cond, List, [], ◌∷◌, ◌++◌, length, get_or, take, drop, replicate, sym, refl, ap, ◌∙◌, subst, arith, take-append-drop}
+use Rattle.std.proofs.Common.{◌≡◌, ℕ, ◌+◌, ◌<◌, ◌≤◌, Bool, false, cond, List, [], ◌∷◌, ◌++◌, length, get_or, take, drop, replicate, sym, ap, ◌∙◌, subst, arith, append_assoc, take-append-drop}
 use lib.ListN.{length-replicate}
-use Rattle.std.proofs.lemmas.List.{take-replicate, take_more}
+use Rattle.std.proofs.lemmas.List.{take-replicate, drop_more}
 use Rattle.kinds.specs.Kinds.{Meaning}
 use Rattle.conversion.specs.Conversions.{Rule}
 use Rattle.ledger.specs.declared.call.Listed.{Listed}
-use Rattle.ledger.specs.Ledgers.{own, Step, run, replies}
-use Rattle.ledger.specs.Mirrors.{Each}
+use Rattle.ledger.specs.Ledgers.{own, Reply, Step, run, replies}
+use Rattle.std.specs.List.{AllByRecursion}
 use Rattle.week.specs.declared.answer.Answer.{Answer}
 use Rattle.week.specs.declared.head.Sheet.{Sheet as Headed}
 use Rattle.week.specs.Weeks.{Sheet, sheet_of, is_closed, seen, size, called_at, aside, Stepped, SteppedListed, FitsIn}
@@ -18,13 +18,6 @@ module _ {K : Type 0} (k : Meaning K) (c : Rule K) (s t : Headed) (ms : List ℕ
 
   abbrev chosen : Bool → Step (Sheet K) K
   chosen b = cond b (called_at k c (size s) (seen s ms xs) q.call) (aside k c (size s) (seen s ms xs) other)
-
-  pub listed_own : (ms' : List ℕ) (xs' : List K) → own (size s) q.marks q.figures ≡ true → Stepped k c s ms xs q.call t ms' xs' a → SteppedListed k c s ms xs q t ms' xs' a
-  listed_own ms' xs' o p = record {
-    same_size = p.same_size;
-    after = p.after ∙ ap (λ b. (chosen b).after) (sym o);
-    answer = p.answer ∙ ap (λ b. (chosen b).answer) (sym o);
-  }
 
   -- the front of other slices that hold zeros only; m and f are its lengths
   module _ (om : List ℕ) (ox : List K) (m f : ℕ) (em : m ≡ q.marks) (ef : f ≡ q.figures) (fits : FitsIn (length om) (length ox) q)
@@ -58,38 +51,28 @@ module _ {K : Type 0} (k : Meaning K) (c : Rule K) (s t : Headed) (ms : List ℕ
     pub figures_stay : fx ++ drop f ox ≡ ox
     figures_stay = ap (λ z. z ++ drop f ox) (ap (λ z. z.slices.figures) stays ∙ sym front_figures) ∙ take-append-drop f ox
 
--- one call more of a list
-module _ {S K : Type 0} (step : S → Listed K → Step S K) where
-  run_push : (s : S) (calls : List (Listed K)) (q : Listed K) → run step s (calls ++ (q ∷ [])) ≡ (step (run step s calls) q).after
-  run_push s [] q = refl
-  run_push s (x ∷ calls) q = run_push (step s x).after calls q
+-- the next call of a list, and the calls that are left after it
+module _ {S K : Type 0} (step : S → Listed K → Step S K) (calls : List (Listed K)) (i : ℕ) (q : Listed K) (h : i < length calls) (e : q ≡ get_or calls i q) (now later : S) (after : later ≡ (step now q).after) where
+  abbrev rest : List (Listed K)
+  rest = drop (i + 1) calls
 
-  replies_push : (s : S) (calls : List (Listed K)) (q : Listed K) → replies step s (calls ++ (q ∷ [])) ≡ replies step s calls ++ ((step (run step s calls) q).answer ∷ [])
-  replies_push s [] q = refl
-  replies_push s (x ∷ calls) q = ap (λ l. (step s x).answer ∷ l) (replies_push (step s x).after calls q)
+  next_call : drop i calls ≡ q ∷ rest
+  next_call = drop_more calls i q h ∙ ap (λ y. y ∷ rest) (sym e)
 
-  module _ (s : S) (calls : List (Listed K)) (i : ℕ) (q : Listed K) (h : i < length calls) (e : q ≡ get_or calls i q) where
-    more : take (i + 1) calls ≡ take i calls ++ (q ∷ [])
-    more = take_more calls i q h ∙ ap (λ y. take i calls ++ (y ∷ [])) (sym e)
+  pub run_next : run step later rest ≡ run step now (drop i calls)
+  run_next = ap (λ s. run step s rest) after ∙ sym (ap (run step now) next_call)
 
-    pub run_more : run step s (take (i + 1) calls) ≡ (step (run step s (take i calls)) q).after
-    run_more = ap (run step s) more ∙ run_push s (take i calls) q
-
-    pub replies_more : replies step s (take (i + 1) calls) ≡ replies step s (take i calls) ++ ((step (run step s (take i calls)) q).answer ∷ [])
-    replies_more = ap (replies step s) more ∙ replies_push s (take i calls) q
+  pub replies_next : (a : Reply K) → a ≡ (step now q).answer → (xs : List (Reply K)) → (xs ++ (a ∷ [])) ++ replies step later rest ≡ xs ++ replies step now (drop i calls)
+  replies_next a f xs =
+      append_assoc xs (a ∷ []) (replies step later rest)
+      ∙ ap (λ l. xs ++ l) (ap (λ y. y ∷ replies step later rest) f ∙ ap (λ s. (step now q).answer ∷ replies step s rest) after ∙ sym (ap (replies step now) next_call))
 
 -- the longest memory of a list
 module _ {K : Type 0} where
-  pub fits_at : (m f : ℕ) (calls : List (Listed K)) (i : ℕ) (q : Listed K) → Each (FitsIn m f) calls → i < length calls → q ≡ get_or calls i q → FitsIn m f q
-  fits_at m f [] i q all h e = absurd (omega arith)
-  fits_at m f (p ∷ calls) zero q all h e = subst (FitsIn m f) (sym e) all.0
-  fits_at m f (p ∷ calls) (suc i) q all h e = fits_at m f calls i q all.1 (omega arith) e
-
-  pub fits_more : (m f m' f' : ℕ) (calls : List (Listed K)) (q : Listed K) → m ≤ m' → f ≤ f' → FitsIn m' f' q → Each (FitsIn m f) calls → Each (FitsIn m' f') (calls ++ (q ∷ []))
+  pub fits_more : (m f m' f' : ℕ) (calls : List (Listed K)) (q : Listed K) → m ≤ m' → f ≤ f' → FitsIn m' f' q → AllByRecursion (FitsIn m f) calls → AllByRecursion (FitsIn m' f') (calls ++ (q ∷ []))
   fits_more m f m' f' [] q a b here all = (here, tt)
   fits_more m f m' f' (p ∷ calls) q a b here all = let h = all.0.0 in let g = all.0.1 in ((omega arith, omega arith), fits_more m f m' f' calls q a b here all.1)
 
--- nothing before some elements
-pub take_none : {A : Type 0} (n : ℕ) (l : List A) → take n [] ++ l ≡ l
-take_none zero l = refl
-take_none (suc n) l = refl
+-- a list that is equal to one of zeros
+pub zeros_stay : {A : Type 0} (x l : List A) (z : A) → x ≡ l → l ≡ replicate (length l) z → x ≡ replicate (length x) z
+zeros_stay x l z e h = subst (λ y. y ≡ replicate (length y) z) (sym e) h

@@ -1,23 +1,14 @@
 -- What an open gave. Assumes nothing.
-use Rattle.std.proofs.Common.{◌≡◌, ℕ, Bool, true, false, not, ◌&&◌, eqb, leb, List, length, Ok, Err, Result, sym, refl, ap, arith}
+use Rattle.std.proofs.Common.{◌≡◌, ℕ, Bool, true, false, not, ◌&&◌, eqb, leb, List, length, Ok, Err, Result, refl, ap, arith}
 use Rattle.refusals.specs.Refusals.{Told}
 use Rattle.kinds.specs.Kinds.{Meaning}
 use Rattle.ledger.specs.Refusals.{memory}
 use Rattle.ledger.specs.Rules.{refuse}
 use Rattle.sheet.specs.declared.heads.OpenSheet.{OpenSheet}
-use Rattle.sheet.specs.declared.refusal.Refusal.{Refusal}
-use Rattle.sheet.specs.Refusals.{told}
 use Rattle.sheet.specs.Sheets.{openable, fresh, opens, opened}
 use Rattle.week.specs.Weeks.{sheet_of, new_sheet}
 
 module _ {K : Type 0} (k : Meaning K) (ms : List ℕ) (xs : List K) (ms' : List ℕ) (xs' : List K) where
-  pub open_refused : (e : Refusal) → opens (Err e) ms' xs' ≡ opened k ms xs → (openable (length ms) (length xs) ≡ Err (told e)) × (ms' ≡ ms) × (xs' ≡ xs)
-  open_refused e h = go (openable (length ms) (length xs)) h
-    where
-      go : (r : Result ℕ Told) → opens (Err e) ms' xs' ≡ fresh k ms xs r → (r ≡ Err (told e)) × (ms' ≡ ms) × (xs' ≡ xs)
-      go (Ok n) h = let a : ◌≡◌ {A = Result ℕ Told} (Err (told e)) (Ok n) = ap (λ o. o.answer) h in let z : ◌≡◌ {A = ℕ} 0 1 = cc in absurd (omega arith)
-      go (Err t) h = (sym (ap (λ o. o.answer) h), ap (λ o. o.slices.marks) h, ap (λ o. o.slices.figures) h)
-
   pub record Opened (s : OpenSheet) : Type 0 where
     pub taken : openable (length ms) (length xs) ≡ Ok (length ms)
     pub rows : s.len ≡ length ms

@@ -7,7 +7,8 @@ use Rattle.ledger.specs.declared.call.Listed.{Listed}
 use Rattle.ledger.specs.Marks.{byte_of, held, is_turned}
 use Rattle.ledger.specs.Rules.{Row, total_rule}
 use Rattle.ledger.specs.Ledgers.{Ledger, Reply, new_ledger, ledger_step, run, replies}
-use Rattle.ledger.specs.Mirrors.{Each, Each2, refused_for_figure, turn_held, mirror_listed, Alike}
+use Rattle.ledger.specs.Mirrors.{refused_for_figure, turn_held, mirror_listed, Alike}
+use Rattle.std.specs.List.{AllByRecursion, AllZip}
 use Rattle.sheet.specs.Refusals.{told}
 use Rattle.sheet.specs.Sheets.{rows_of, openable}
 use Rattle.week.specs.declared.carry.Stop.{Stop}
@@ -49,18 +50,18 @@ module _ {K : Type 0} (k : Meaning K) (c : Rule K) (n : ℕ) where
     pub state : (sheet_after (map (mirror_listed k) calls)).closed ≡ (sheet_after calls).closed
     pub marks : (sheet_after (map (mirror_listed k) calls)).slices.marks ≡ (sheet_after calls).slices.marks
     pub figures : (sheet_after (map (mirror_listed k) calls)).slices.figures ≡ map (λ r. turn_held k r.mark r.figure) (rows_after calls)
-    pub answers : Each2 (Alike k) (sheet_replies calls) (sheet_replies (map (mirror_listed k) calls))
+    pub answers : AllZip (Alike k) (sheet_replies calls) (sheet_replies (map (mirror_listed k) calls))
 
   pub record Law (calls : List (Listed K)) : Type 0 where
     -- marks, figures, state and answers are the ledger's
     pub ledger : sheet_after calls ≡ shown (ledger_after calls)
     pub answers : sheet_replies calls ≡ ledger_replies calls
     -- each held row has a number, each turned row one within the conversion's ends, and each free row zero
-    pub numbers : Each (λ r. held r.mark ≡ true → k.number r.figure ≡ true) (rows_after calls)
-    pub within : Each (λ r. is_turned r.mark ≡ true → in_range k c r.figure ≡ true) (rows_after calls)
-    pub zeros : Each (λ r. held r.mark ≡ false → r.figure ≡ k.nought) (rows_after calls)
+    pub numbers : AllByRecursion (λ r. held r.mark ≡ true → k.number r.figure ≡ true) (rows_after calls)
+    pub within : AllByRecursion (λ r. is_turned r.mark ≡ true → in_range k c r.figure ≡ true) (rows_after calls)
+    pub zeros : AllByRecursion (λ r. held r.mark ≡ false → r.figure ≡ k.nought) (rows_after calls)
     -- no call is refused for its figure
-    pub fair : Each2 (λ q a. refused_for_figure q.call a ≡ false) calls (sheet_replies calls)
+    pub fair : AllZip (λ q a. refused_for_figure q.call a ≡ false) calls (sheet_replies calls)
     -- a total, where there is one, is the running sum of the turned figures in row order
     pub sums : (s : K) → total_rule k (rows_after calls) ≡ Ok s → s ≡ sum k (turned_figures [] (rows_after calls))
     -- under an odd conversion, of a kind whose zero is not infinite

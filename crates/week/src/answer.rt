@@ -1,13 +1,10 @@
-ghost use Rattle.std.specs.Prelude.{◌≡◌};
-ghost use Rattle.ledger.specs.Ledgers.{reply, done, amount, verdict, row as row_reply};
-ghost use Rattle.sheet.specs.Refusals.{answered};
-ghost use Rattle.week.specs.Weeks.{replied};
+ghost use Rattle.std.specs.Prelude.{◌≡◌, MatchResult};
 
 use ledger::mark::Mark;
 use sheet::refusal::Refusal;
 
 // What a call of a list is answered.
-#[derive(Clone, Copy)]
+#[derive(Clone, Copy, PartialEq, Debug)]
 pub enum Answer<K> {
     // It was carried out.
     Done,
@@ -23,38 +20,15 @@ pub enum Answer<K> {
     LeftOut,
 }
 
-pub(crate) fn done<K>(r: Result<(), Refusal>) -> Answer<K>
-    ensures { replied result ≡ reply (λ _. done) (answered r) }
-{
-    match r {
-        Ok(()) => Answer::Done,
-        Err(refusal) => Answer::Refused(refusal),
-    }
-}
-
-pub(crate) fn row<K>(r: Result<(Mark, K), Refusal>) -> Answer<K>
-    ensures { replied result ≡ reply (λ p. row_reply p.0 p.1) (answered r) }
-{
-    match r {
-        Ok((mark, x)) => Answer::Row(mark, x),
-        Err(refusal) => Answer::Refused(refusal),
-    }
-}
-
-pub(crate) fn amount<K>(r: Result<K, Refusal>) -> Answer<K>
-    ensures { replied result ≡ reply amount (answered r) }
-{
-    match r {
-        Ok(x) => Answer::Amount(x),
-        Err(refusal) => Answer::Refused(refusal),
-    }
-}
-
-pub(crate) fn verdict<K>(r: Result<bool, Refusal>) -> Answer<K>
-    ensures { replied result ≡ reply verdict (answered r) }
-{
-    match r {
-        Ok(exceeds) => Answer::Verdict(exceeds),
-        Err(refusal) => Answer::Refused(refusal),
+impl<K> Answer<K> {
+    // The answer of a call that gave this: `given` of the value, or the refusal.
+    pub(crate) fn of<T, F: FnOnce(T) -> Answer<K>>(r: Result<T, Refusal>, given: F) -> Answer<K>
+        requires { F.IsAlwaysCallable given }
+        ensures { MatchResult r (λ x. F.post given x result) (λ refusal. result ≡ Answer.Refused refusal) }
+    {
+        match r {
+            Ok(x) => given(x),
+            Err(refusal) => Answer::Refused(refusal),
+        }
     }
 }

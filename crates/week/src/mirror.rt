@@ -28,13 +28,11 @@ pub fn mirrored<C: Odd>(
     ensures list { IfOk result (λ v. v.items ≡ map (mirror_listed C.Figure.Kind.means) calls.now) }
     ensures week { C.Figure.Kind.means.infinite C.Figure.Kind.means.nought ≡ false → (n : ℕ) → n ≤ 4096 → MirroredWeek C.Figure.Kind.means (C.Conversion.rule c.now) n calls.now }
 {
-    let mut mirror = Vec::new(heap);
-    for listed in calls {
-        mirror.push(Listed {
-            marks: listed.marks,
-            figures: listed.figures,
+    calls
+        .iter()
+        .map(|listed| Listed {
             call: mirrored_call(&listed.call),
-        })?;
-    }
-    Ok(mirror)
+            ..*listed
+        })
+        .collect(heap)
 }

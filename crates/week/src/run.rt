@@ -1,6 +1,6 @@
-ghost use Rattle.std.specs.Prelude.{◌≡◌, ◌≤◌, max, true, [], map, length, replicate, IfOk, vec_capacity};
+ghost use Rattle.std.specs.Prelude.{◌≡◌, ◌≤◌, [], map, length, replicate, IfOk, vec_capacity};
 ghost use Rattle.ledger.specs.Ledgers.{own, run, replies};
-ghost use Rattle.ledger.specs.Mirrors.{Each};
+ghost use Rattle.std.specs.List.{AllByRecursion};
 ghost use Rattle.week.specs.Weeks.{size, seen, replied, sheet_step, SteppedListed, FitsIn};
 ghost use Rattle.week.specs.Law.{CarriedOut};
 
@@ -13,6 +13,16 @@ use kinds::kind::Kind;
 use ledger::call::Listed;
 use sheet::open::open;
 use std::alloc::{AllocError, Global};
+
+// The slices of which a call that brings other memory gets the front. They hold zeros only, since no
+// call changes them.
+#[derive(Drop)]
+struct Other<'m, 'f, K: Kind> {
+    marks: &'m mut [u8],
+    figures: &'f mut [K],
+    ghost zero_marks: { marks.now ≡ replicate (length marks.now) 0 },
+    ghost zero_figures: { figures.now ≡ replicate (length figures.now) K.means.nought },
+}
 
 fn brings_own<K>(listed: &Listed<K>, rows: usize) -> bool
     ensures { result ≡ own rows listed.now.marks listed.now.figures }
@@ -27,50 +37,39 @@ fn step_listed<C: Conversion>(
     listed: &Listed<C::Figure>,
     marks: &mut [u8],
     figures: &mut [C::Figure],
-    other_marks: &mut [u8],
-    other_figures: &mut [C::Figure],
+    other: &mut Other<C::Figure>,
 ) -> (Sheet, Answer<C::Figure>)
     requires rows { length marks.old ≡ size sheet }
-    requires fits { FitsIn (length other_marks.old) (length other_figures.old) listed.now }
-    requires fresh_marks { other_marks.old ≡ replicate (length other_marks.old) 0 }
-    requires fresh_figures { other_figures.old ≡ replicate (length other_figures.old) C.Figure.Kind.means.nought }
+    requires fits { FitsIn (length other.old.marks.now) (length other.old.figures.now) listed.now }
     ensures step { SteppedListed C.Figure.Kind.means (C.Conversion.rule c.now) sheet marks.old figures.old listed.now result.0 marks.new figures.new result.1 }
-    ensures other_marks { other_marks.new ≡ other_marks.old }
-    ensures other_figures { other_figures.new ≡ other_figures.old }
+    ensures other_marks { length other.new.marks.now ≡ length other.old.marks.now }
+    ensures other_figures { length other.new.figures.now ≡ length other.old.figures.now }
 {
     if brings_own(listed, marks.len()) {
-        step(sheet, c, &listed.call, marks, figures)
-    } else {
-        step(
-            sheet,
-            c,
-            &listed.call,
-            &mut other_marks[0..listed.marks],
-            &mut other_figures[0..listed.figures],
-        )
+        return step(sheet, c, &listed.call, marks, figures);
     }
+    let other_marks = &mut *other.marks;
+    let other_figures = &mut *other.figures;
+    step(
+        sheet,
+        c,
+        &listed.call,
+        &mut other_marks[0..listed.marks],
+        &mut other_figures[0..listed.figures],
+    )
 }
 
 // The longest memory that a call of the list brings.
 fn longest<K>(calls: &[Listed<K>]) -> (usize, usize)
-    ensures { Each (FitsIn result.0 result.1) calls.now }
+    ensures { AllByRecursion (FitsIn result.0 result.1) calls.now }
 {
-    let mut marks = 0;
-    let mut figures = 0;
-    for listed in calls {
-        marks = larger(marks, listed.marks);
-        figures = larger(figures, listed.figures);
-    }
-    (marks, figures)
-}
-
-fn larger(a: usize, b: usize) -> usize
-    ensures { (a ≤ result) × (b ≤ result) }
-{
-    if a < b { b } else { a }
+    calls.iter().fold((0, 0), |(marks, figures), listed| {
+        (listed.marks.max(marks), listed.figures.max(figures))
+    })
 }
 
 // As many copies of `x`.
+// Stays a function: `vec![in heap; x; n]` makes clones, which no bound of a kind says to equal `x`.
 fn copies<T: Copy>(heap: Global, n: usize, x: T) -> Result<Vec<T>, AllocError>
     ensures { IfOk result (λ v. v.items ≡ replicate n x) }
 {
@@ -86,14 +85,11 @@ fn run_list<C: Conversion>(
     calls: &[Listed<C::Figure>],
     marks: &mut [u8],
     figures: &mut [C::Figure],
-    other_marks: &mut [u8],
-    other_figures: &mut [C::Figure],
+    other: &mut Other<C::Figure>,
     answers: &mut Vec<Answer<C::Figure>>,
 ) -> Sheet
     requires rows { length marks.old ≡ size sheet }
-    requires fits { Each (FitsIn (length other_marks.old) (length other_figures.old)) calls.now }
-    requires fresh_marks { other_marks.old ≡ replicate (length other_marks.old) 0 }
-    requires fresh_figures { other_figures.old ≡ replicate (length other_figures.old) C.Figure.Kind.means.nought }
+    requires fits { AllByRecursion (FitsIn (length other.old.marks.now) (length other.old.figures.now)) calls.now }
     requires empty { answers.old.items ≡ [] }
     requires room { length calls.now ≤ vec_capacity answers.old }
     ensures after { seen result marks.new figures.new ≡ run (sheet_step C.Figure.Kind.means (C.Conversion.rule c.now) (size sheet)) (seen sheet marks.old figures.old) calls.now }
@@ -101,15 +97,7 @@ fn run_list<C: Conversion>(
 {
     let mut sheet = sheet;
     for listed in calls {
-        let (next, answer) = step_listed(
-            sheet,
-            c,
-            listed,
-            marks,
-            figures,
-            other_marks,
-            other_figures,
-        );
+        let (next, answer) = step_listed(sheet, c, listed, marks, figures, other);
         sheet = next;
         let _ = answers.push(answer);
     }
@@ -129,18 +117,13 @@ pub fn carry_out<C: Conversion>(
     ensures { CarriedOut C.Figure.Kind.means (C.Conversion.rule c.now) calls.now marks.old figures.old result marks.new figures.new }
 {
     let (longest_marks, longest_figures) = longest(calls);
-    let Ok(mut other_marks) = copies(heap, longest_marks, 0u8) else {
-        return Err(Stop::NoMemory);
-    };
-    let Ok(mut other_figures) = copies(heap, longest_figures, C::Figure::zero()) else {
-        return Err(Stop::NoMemory);
-    };
-    let Ok(mut answers) = Vec::with_capacity(heap, calls.len()) else {
-        return Err(Stop::NoMemory);
-    };
-    let opened = match open(marks, figures) {
-        Ok(sheet) => sheet,
-        Err(refusal) => return Err(Stop::Refused(refusal)),
+    let mut other_marks = copies(heap, longest_marks, 0u8)?;
+    let mut other_figures = copies(heap, longest_figures, C::Figure::zero())?;
+    let mut answers = Vec::with_capacity(heap, calls.len())?;
+    let opened = open(marks, figures)?;
+    let mut other = Other {
+        marks: other_marks.as_mut_slice(),
+        figures: other_figures.as_mut_slice(),
     };
     let sheet = run_list(
         Sheet::Open(opened),
@@ -148,8 +131,7 @@ pub fn carry_out<C: Conversion>(
         calls,
         marks,
         figures,
-        other_marks.as_mut_slice(),
-        other_figures.as_mut_slice(),
+        &mut other,
         &mut answers,
     );
     Ok(Week { sheet, answers })

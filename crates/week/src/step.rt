@@ -1,13 +1,15 @@
+ghost use Rattle.std.specs.Prelude.{◌≡◌, MatchResult};
 ghost use Rattle.conversion.specs.Conversions.{Rule};
 ghost use Rattle.week.specs.declared.head.Sheet.TheVariants as Head;
 ghost use Rattle.week.specs.Weeks.{Stepped};
 
-use crate::answer::{Answer, amount, done, row, verdict};
+use crate::answer::Answer;
 use crate::head::Sheet;
 use conversion::conversion::Conversion;
 use kinds::kind::Kind;
 use ledger::call::Call;
 use sheet::heads::{ClosedSheet, OpenSheet};
+use sheet::refusal::Refusal;
 
 // One call on a sheet, with the slices that it brings. A call that the sheet has not, open or closed
 // as it is, is left out.
@@ -36,48 +38,32 @@ fn step_open<C: Conversion>(
     ensures { Stepped C.Figure.Kind.means (C.Conversion.rule c.now) (Head.Open sheet) marks.old figures.old call.now result.0 marks.new figures.new result.1 }
 {
     let mut s = sheet;
-    match call {
-        Call::Enter(i, x) => {
-            let answer = done(s.enter(marks, figures, *i, *x));
-            (Sheet::Open(s), answer)
-        }
-        Call::On(i) => {
-            let answer = done(s.on(marks, figures, c, *i));
-            (Sheet::Open(s), answer)
-        }
-        Call::OnAll => {
-            let answer = done(s.on_all(marks, figures, c));
-            (Sheet::Open(s), answer)
-        }
-        Call::Back(i) => {
-            let answer = done(s.back(marks, figures, c, *i));
-            (Sheet::Open(s), answer)
-        }
-        Call::Clear(i) => {
-            let answer = done(s.clear(marks, figures, *i));
-            (Sheet::Open(s), answer)
-        }
-        Call::Read(i) => {
-            let answer = row(s.read(marks, figures, *i));
-            (Sheet::Open(s), answer)
-        }
-        Call::Close => close(s, marks, figures),
-        Call::Reopen => (Sheet::Open(s), Answer::LeftOut),
-        Call::Total => (Sheet::Open(s), Answer::LeftOut),
-        Call::Mean => (Sheet::Open(s), Answer::LeftOut),
-        Call::Exceeds(_) => (Sheet::Open(s), Answer::LeftOut),
-    }
+    let answer = match call {
+        Call::Enter(i, x) => Answer::of(s.enter(marks, figures, *i, *x), |_| Answer::Done),
+        Call::On(i) => Answer::of(s.on(marks, figures, c, *i), |_| Answer::Done),
+        Call::OnAll => Answer::of(s.on_all(marks, figures, c), |_| Answer::Done),
+        Call::Back(i) => Answer::of(s.back(marks, figures, c, *i), |_| Answer::Done),
+        Call::Clear(i) => Answer::of(s.clear(marks, figures, *i), |_| Answer::Done),
+        Call::Read(i) => Answer::of(s.read(marks, figures, *i), |(mark, x)| Answer::Row(mark, x)),
+        Call::Close => return passed(s.close(marks, figures), Sheet::Closed, Sheet::Open),
+        Call::Reopen | Call::Total | Call::Mean | Call::Exceeds(_) => Answer::LeftOut,
+    };
+    (Sheet::Open(s), answer)
 }
 
-fn close<K: Kind>(sheet: OpenSheet, marks: &[u8], figures: &[K]) -> (Sheet, Answer<K>)
-    ensures { (c : Rule K) → Stepped K.Kind.means c (Head.Open sheet) marks.now figures.now Call.Close result.0 marks.now figures.now result.1 }
+// What a close or a reopen gives: the other head, or the head back with the refusal.
+fn passed<A, B, K, F: FnOnce(A) -> Sheet, G: FnOnce(B) -> Sheet>(
+    r: Result<A, (B, Refusal)>,
+    given: F,
+    kept: G,
+) -> (Sheet, Answer<K>)
+    requires given { F.IsAlwaysCallable given }
+    requires kept { G.IsAlwaysCallable kept }
+    ensures { MatchResult r (λ head. F.post given head result.0 × (result.1 ≡ Answer.Done)) (λ p. G.post kept p.0 result.0 × (result.1 ≡ Answer.Refused p.1)) }
 {
-    match sheet.close(marks, figures) {
-        Ok(closed) => (Sheet::Closed(closed), Answer::Done),
-        Err(kept) => {
-            let (open, refusal) = kept;
-            (Sheet::Open(open), Answer::Refused(refusal))
-        }
+    match r {
+        Ok(head) => (given(head), Answer::Done),
+        Err((head, refusal)) => (kept(head), Answer::Refused(refusal)),
     }
 }
 
@@ -90,29 +76,23 @@ fn step_closed<K: Kind>(
     ensures { (c : Rule K) → Stepped K.Kind.means c (Head.Closed sheet) marks.now figures.now call.now result.0 marks.now figures.now result.1 }
 {
     let answer = match call {
-        Call::Read(i) => row(sheet.read(marks, figures, *i)),
-        Call::Total => amount(sheet.total(marks, figures)),
-        Call::Mean => amount(sheet.mean(marks, figures)),
-        Call::Exceeds(limit) => verdict(sheet.exceeds(marks, figures, *limit)),
-        Call::Reopen => return reopen(sheet, marks, figures),
-        Call::Enter(_, _) => Answer::LeftOut,
-        Call::On(_) => Answer::LeftOut,
-        Call::OnAll => Answer::LeftOut,
-        Call::Back(_) => Answer::LeftOut,
-        Call::Clear(_) => Answer::LeftOut,
-        Call::Close => Answer::LeftOut,
+        Call::Read(i) => Answer::of(
+            sheet.read(marks, figures, *i),
+            |(mark, x)| Answer::Row(mark, x),
+        ),
+        Call::Total => Answer::of(sheet.total(marks, figures), Answer::Amount),
+        Call::Mean => Answer::of(sheet.mean(marks, figures), Answer::Amount),
+        Call::Exceeds(limit) => Answer::of(
+            sheet.exceeds(marks, figures, *limit),
+            |b| Answer::Verdict(b),
+        ),
+        Call::Reopen => return passed(sheet.reopen(marks, figures), Sheet::Open, Sheet::Closed),
+        Call::Enter(_, _)
+        | Call::On(_)
+        | Call::OnAll
+        | Call::Back(_)
+        | Call::Clear(_)
+        | Call::Close => Answer::LeftOut,
     };
     (Sheet::Closed(sheet), answer)
-}
-
-fn reopen<K: Kind>(sheet: ClosedSheet, marks: &[u8], figures: &[K]) -> (Sheet, Answer<K>)
-    ensures { (c : Rule K) → Stepped K.Kind.means c (Head.Closed sheet) marks.now figures.now Call.Reopen result.0 marks.now figures.now result.1 }
-{
-    match sheet.reopen(marks, figures) {
-        Ok(open) => (Sheet::Open(open), Answer::Done),
-        Err(kept) => {
-            let (closed, refusal) = kept;
-            (Sheet::Closed(closed), Answer::Refused(refusal))
-        }
-    }
 }

@@ -14,7 +14,7 @@ use function_conversions::sinh::Sinh;
 use function_conversions::tanh::Tanh;
 use kinds::kind::Kind;
 use ledger::call::{Call, Listed};
-use show::Show;
+use show::{Show, Shown};
 use week::mirror::mirrored;
 use week::run::carry_out;
 
@@ -38,15 +38,8 @@ fn own<K: Kind>(
     rows: usize,
     calls: &[Call<K>],
 ) -> anyhow::Result<Vec<Listed<K>>> {
-    let mut listed = Vec::new(rt.alloc());
-    for call in calls {
-        listed.push(Listed {
-            marks: rows,
-            figures: rows,
-            call: *call,
-        })?;
-    }
-    Ok(listed)
+    let listed = calls.iter().map(|call| Listed::own(rows, *call));
+    Ok(listed.collect(rt.alloc())?)
 }
 
 // A week on a new sheet, printed.
@@ -58,17 +51,15 @@ fn print_week<K: Kind + Show, C: Conversion<Figure = K>>(
     calls: &[Listed<K>],
 ) -> anyhow::Result<()> {
     let heap = rt.alloc();
-    let mut marks: Vec<u8> = Vec::new(heap);
-    marks.resize(rows, 0)?;
-    let mut figures: Vec<K> = Vec::new(heap);
-    figures.resize(rows, K::zero())?;
+    let mut marks = vec![in heap; 0u8; rows]?;
+    let mut figures = vec![in heap; K::zero(); rows]?;
     println!(rt; "{title}")?;
-    let Ok(week) = carry_out(heap, c, calls, marks.as_mut_slice(), figures.as_mut_slice()) else {
-        return Err(anyhow!("no sheet could be opened"));
-    };
+    let week = carry_out(heap, c, calls, &mut marks, &mut figures).map_err(|_| anyhow!(
+        "no sheet could be opened"
+    ))?;
     for (listed, answer) in calls.iter().zip(week.answers.iter()) {
-        let call = show::call(heap, &listed.call)?;
-        let said = show::answer(heap, answer)?;
+        let call = Shown(&listed.call);
+        let said = Shown(answer);
         println!(rt; "  {call}: {said}")?;
     }
     println!(rt; "")?;
@@ -79,7 +70,6 @@ fn print_week<K: Kind + Show, C: Conversion<Figure = K>>(
 fn print_both<K: Kind + Show, C: Odd + Conversion<Figure = K>>(
     rt: &HostRuntime,
     title: &str,
-    mirror_title: &str,
     c: &C,
     rows: usize,
     calls: &[Call<K>],
@@ -87,7 +77,7 @@ fn print_both<K: Kind + Show, C: Odd + Conversion<Figure = K>>(
     let listed = own(rt, rows, calls)?;
     print_week(rt, title, c, rows, &listed)?;
     let mirror = mirrored(rt.alloc(), c, &listed)?;
-    print_week(rt, mirror_title, c, rows, &mirror)
+    print_week(rt, "the same, sign-turned", c, rows, &mirror)
 }
 
 fn tanh_week(rt: &HostRuntime) -> anyhow::Result<()> {
@@ -103,14 +93,7 @@ fn tanh_week(rt: &HostRuntime) -> anyhow::Result<()> {
         Call::Read(1),
     ];
     let c = By { pair: Tanh };
-    print_both(
-        rt,
-        "tanh of 0, 800 and -800",
-        "the same, sign-turned",
-        &c,
-        3,
-        &calls,
-    )
+    print_both(rt, "tanh of 0, 800 and -800", &c, 3, &calls)
 }
 
 fn infinite_week(rt: &HostRuntime) -> anyhow::Result<()> {
@@ -123,14 +106,7 @@ fn infinite_week(rt: &HostRuntime) -> anyhow::Result<()> {
         Call::Exceeds(1.0),
     ];
     let c = By { pair: Sinh };
-    print_both(
-        rt,
-        "sinh of 800 is infinite",
-        "the same, sign-turned",
-        &c,
-        1,
-        &calls,
-    )
+    print_both(rt, "sinh of 800 is infinite", &c, 1, &calls)
 }
 
 fn empty_week(rt: &HostRuntime) -> anyhow::Result<()> {
@@ -156,14 +132,7 @@ fn cents_week(rt: &HostRuntime) -> anyhow::Result<()> {
         Call::Exceeds(2),
         Call::Exceeds(3),
     ];
-    print_both(
-        rt,
-        "cents 5 and -8, reversed",
-        "the same, sign-turned",
-        &Reversal,
-        3,
-        &calls,
-    )
+    print_both(rt, "cents 5 and -8, reversed", &Reversal, 3, &calls)
 }
 
 fn layers_week(rt: &HostRuntime) -> anyhow::Result<()> {
@@ -183,14 +152,7 @@ fn layers_week(rt: &HostRuntime) -> anyhow::Result<()> {
             second: Reversal,
         },
     };
-    print_both(
-        rt,
-        "cents through a flip and two chains",
-        "the same, sign-turned",
-        &c,
-        2,
-        &calls,
-    )
+    print_both(rt, "cents through a flip and two chains", &c, 2, &calls)
 }
 
 fn single_week(rt: &HostRuntime) -> anyhow::Result<()> {

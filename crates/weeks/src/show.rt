@@ -1,90 +1,92 @@
-//! Calls and answers as text.
+//! Calls and answers as they are printed.
 use ledger::call::Call;
-use ledger::mark::Mark;
 use refusals::Numbered;
 use sheet::refusal::Refusal;
-use std::alloc::{AllocError, Global};
+use std::fmt;
 use std::num::{f32_to_bits_with_nan, f64_to_bits_with_nan};
 use week::answer::Answer;
 
-// A figure as text.
+// A kind whose figures can be printed.
+// Stays a trait: the `Display` of a float is that of std, which prints no bits.
 pub trait Show {
-    fn show(&self, heap: Global) -> Result<String, AllocError>;
+    fn show<W: fmt::Write>(&self, f: &mut fmt::Formatter<W>) -> fmt::Result;
 }
 
 // The digits of the bits.
 impl Show for f64 {
-    fn show(&self, heap: Global) -> Result<String, AllocError> {
+    fn show<W: fmt::Write>(&self, f: &mut fmt::Formatter<W>) -> fmt::Result {
         let bits = f64_to_bits_with_nan(*self);
-        format!(in heap; "{bits:016x}")
+        write!(f, "{bits:016x}")
     }
 }
 
 // The digits of the bits.
 impl Show for f32 {
-    fn show(&self, heap: Global) -> Result<String, AllocError> {
+    fn show<W: fmt::Write>(&self, f: &mut fmt::Formatter<W>) -> fmt::Result {
         let bits = f32_to_bits_with_nan(*self);
-        format!(in heap; "{bits:08x}")
+        write!(f, "{bits:08x}")
     }
 }
 
 impl Show for i64 {
-    fn show(&self, heap: Global) -> Result<String, AllocError> {
+    fn show<W: fmt::Write>(&self, f: &mut fmt::Formatter<W>) -> fmt::Result {
         let cents = *self;
-        format!(in heap; "{cents}")
+        write!(f, "{cents}")
     }
 }
 
-fn with_figure<K: Show>(heap: Global, words: &str, x: &K) -> Result<String, AllocError> {
-    let figure = x.show(heap)?;
-    format!(in heap; "{words} {figure}")
-}
+// A call or an answer as the program prints it.
+#[derive(Drop)]
+pub struct Shown<'a, T>(pub &'a T);
 
-pub fn call<K: Show>(heap: Global, call: &Call<K>) -> Result<String, AllocError> {
-    match call {
-        Call::Enter(row, x) => {
-            let words = format!(in heap; "enter {row}")?;
-            with_figure(heap, &words, x)
+impl<K: Show> fmt::Display for Shown<'_, Call<K>> {
+    fn fmt<W: fmt::Write>(&self, f: &mut fmt::Formatter<W>) -> fmt::Result {
+        match self.0 {
+            Call::Enter(row, x) => {
+                write!(f, "enter {row} ")?;
+                x.show(f)
+            }
+            Call::On(row) => write!(f, "on {row}"),
+            Call::OnAll => write!(f, "on_all"),
+            Call::Back(row) => write!(f, "back {row}"),
+            Call::Clear(row) => write!(f, "clear {row}"),
+            Call::Read(row) => write!(f, "read {row}"),
+            Call::Close => write!(f, "close"),
+            Call::Reopen => write!(f, "reopen"),
+            Call::Total => write!(f, "total"),
+            Call::Mean => write!(f, "mean"),
+            Call::Exceeds(limit) => {
+                write!(f, "exceeds ")?;
+                limit.show(f)
+            }
         }
-        Call::On(row) => format!(in heap; "on {row}"),
-        Call::OnAll => format!(in heap; "on_all"),
-        Call::Back(row) => format!(in heap; "back {row}"),
-        Call::Clear(row) => format!(in heap; "clear {row}"),
-        Call::Read(row) => format!(in heap; "read {row}"),
-        Call::Close => format!(in heap; "close"),
-        Call::Reopen => format!(in heap; "reopen"),
-        Call::Total => format!(in heap; "total"),
-        Call::Mean => format!(in heap; "mean"),
-        Call::Exceeds(limit) => with_figure(heap, "exceeds", limit),
     }
 }
 
-pub fn answer<K: Show>(heap: Global, answer: &Answer<K>) -> Result<String, AllocError> {
-    match answer {
-        Answer::Done => format!(in heap; "done"),
-        Answer::Row(mark, x) => with_figure(heap, mark_word(*mark), x),
-        Answer::Amount(x) => x.show(heap),
-        Answer::Verdict(exceeds) => {
-            let word = if *exceeds { "yes" } else { "no" };
-            format!(in heap; "{word}")
+impl<K: Show> fmt::Display for Shown<'_, Answer<K>> {
+    fn fmt<W: fmt::Write>(&self, f: &mut fmt::Formatter<W>) -> fmt::Result {
+        match self.0 {
+            Answer::Done => write!(f, "done"),
+            Answer::Row(mark, x) => {
+                write!(f, "{mark} ")?;
+                x.show(f)
+            }
+            Answer::Amount(x) => x.show(f),
+            Answer::Verdict(true) => write!(f, "yes"),
+            Answer::Verdict(false) => write!(f, "no"),
+            Answer::Refused(refusal) => Shown(refusal).fmt(f),
+            Answer::LeftOut => write!(f, "left out, the sheet has no such call now"),
         }
-        Answer::Refused(refusal) => refused(heap, refusal),
-        Answer::LeftOut => format!(in heap; "left out, the sheet has no such call now"),
     }
 }
 
-fn mark_word(mark: Mark) -> &'static str {
-    match mark {
-        Mark::Free => "free",
-        Mark::Plain => "plain",
-        Mark::Turned => "turned",
-    }
-}
-
-fn refused(heap: Global, refusal: &Refusal) -> Result<String, AllocError> {
-    let number = refusal.number();
-    match refusal.row() {
-        Some(row) => format!(in heap; "refused with {number}, row {row}"),
-        None => format!(in heap; "refused with {number}"),
+impl fmt::Display for Shown<'_, Refusal> {
+    fn fmt<W: fmt::Write>(&self, f: &mut fmt::Formatter<W>) -> fmt::Result {
+        let number = self.0.number();
+        write!(f, "refused with {number}")?;
+        match self.0.row() {
+            Some(row) => write!(f, ", row {row}"),
+            None => Ok(()),
+        }
     }
 }

@@ -4,19 +4,19 @@ use Rattle.week.specs.Law.{Carried}
 use Rattle.scoring.specs.Scores.{judgement}
 use Rattle.scoring.proofs.settle.settle.Goals as goal
 
-pub returns-in-Ok-carry_out : goal.returns-in-Ok-carry_out
-returns-in-Ok-carry_out g c =
+pub returns : goal.returns
+returns g c =
     let k = g.C.Figure.Kind.means in
     let rule = g.C.Conversion.rule c.args.c.now in
-    let week = c.in-Ok-carry_out.week in
+    let week = c.in_ok-week.week in
     let n = length c.args.marks.now in
     let sheet = seen week.sheet c.carry_out.new.marks c.carry_out.new.figures in
-    let calls = c.as_slice.ensures.value ∙ c.in-Ok.ensures in
-    let done = c.in-Ok-carry_out.ensures in
+    let calls = c.deref.ensures.value ∙ c.in_ok-calls.ensures in
+    let done = c.in_ok-week.ensures in
     let carried = subst (λ l. Carried k rule n l sheet (map replied (vec_items week.answers))) calls done.1 in (
       done.0,
       record {
-        verdict = c.judge.ensures ∙ ap (λ l. judgement 0 None None (map replied l)) c.as_slice-in-Ok-carry_out.ensures.value ∙ ap (judgement 0 None None) carried.answered;
+        verdict = c.judge.ensures ∙ ap (λ l. judgement 0 None None (map replied l)) c.deref-2.ensures.value ∙ ap (judgement 0 None None) carried.answered;
         marks = ap (λ s. s.slices.marks) carried.after;
         figures = ap (λ s. s.slices.figures) carried.after;
         law = carried.law;

@@ -1,73 +1,46 @@
-use Rattle.std.proofs.Common.{◌≡◌, ◌+◌, ◌<◌, cond, [], ◌∷◌, ◌++◌, map, length, take, replicate, vec_items, vec_len, vec_capacity, sym, ap, ◌∙◌, subst, arith, take_all}
+use Rattle.std.proofs.Common.{◌≡◌, ◌+◌, ◌<◌, cond, [], ◌∷◌, ◌++◌, map, drop, vec_items, vec_len, vec_capacity, ap, ◌∙◌, arith}
 use Rattle.std.proofs.lemmas.List.{map_push}
-use Rattle.ledger.specs.Ledgers.{run, replies}
-use Rattle.week.specs.Weeks.{size, seen, replied, sheet_step, FitsIn}
-use Rattle.week.proofs.Listing.{run_more, replies_more, fits_at}
+use Rattle.ledger.specs.Ledgers.{replies}
+use Rattle.week.specs.Weeks.{size, seen, replied, sheet_step}
+use Rattle.week.proofs.Listing.{run_next, replies_next}
 use Rattle.week.proofs.run.run_list.Goals as goal
-
-pub step_listed-next-requires : goal.step_listed-next-requires
-step_listed-next-requires g c =
-    let inv = c.loop-listed.invariant in
-    let om = c.args.other_marks.now in
-    let ox = c.args.other_figures.now in
-    let q = c.listed-item.result in
-    let nought = g.C.Figure.Kind.means.nought in
-    let fits = fits_at (length om) (length ox) c.args.calls.now c.loop-listed.listed-index q c.requires.fits c.loop-listed-test.true c.listed-item.is in
-    record {
-      rows = c.loop-listed.auto.marks ∙ c.requires.rows ∙ sym inv.3;
-      fits = subst (λ l. FitsIn (length l) (length c.loop-listed.other_figures) q) (sym inv.4) (subst (λ l. FitsIn (length om) (length l) q) (sym inv.5) fits);
-      fresh_marks = subst (λ l. l ≡ replicate (length l) 0) (sym inv.4) c.requires.fresh_marks;
-      fresh_figures = subst (λ l. l ≡ replicate (length l) nought) (sym inv.5) c.requires.fresh_figures;
-    }
 
 pub loop-listed-preserved : goal.loop-listed-preserved
 loop-listed-preserved g c =
     let k = g.C.Figure.Kind.means in
     let rule = g.C.Conversion.rule c.args.c.now in
-    let n = size c.args.sheet in
-    let step = sheet_step k rule n in
-    let first = seen c.args.sheet c.args.marks.now c.args.figures.now in
+    let step = sheet_step k rule (size c.args.sheet) in
     let calls = c.args.calls.now in
     let i = c.loop-listed.listed-index in
     let q = c.listed-item.result in
-    let before = seen c.loop-listed.sheet c.loop-listed.marks c.loop-listed.figures in
+    let now = seen c.loop-listed.sheet c.loop-listed.marks c.loop-listed.figures in
     let inv = c.loop-listed.invariant in
     let next = c.step_listed-next in
+    let later = seen next.result.0 next.new.marks next.new.figures in
     let p = next.ensures.step in
     let a = next.result.1 in
-    let old = c.loop-listed.answers in
+    let old = vec_items c.loop-listed.answers in
     let taken = c.loop-listed-test.true in
-    let len = inv.1 in
-    let cap = inv.2 in
-    let room : vec_len old < vec_capacity old = omega arith in
+    let len = inv.one_each in
+    let cap = inv.room in
+    let room : vec_len c.loop-listed.answers < vec_capacity c.loop-listed.answers = omega arith in
     let pushed = c.push.ensures.succeeds room in
-    let items : vec_items c.push.new.self ≡ vec_items old ++ (a ∷ []) = c.push.ensures.items ∙ ap (λ b. cond b (vec_items old ++ (a ∷ [])) (vec_items old)) pushed in
-    let longer : vec_len c.push.new.self ≡ vec_len old + 1 = c.push.ensures.len ∙ ap (λ b. cond b (vec_len old + 1) (vec_len old)) pushed in
-    let kept = c.push.ensures.capacity in (
-      omega arith,
-      omega arith,
-      omega arith,
-      p.same_size ∙ inv.3,
-      next.ensures.other_marks ∙ inv.4,
-      next.ensures.other_figures ∙ inv.5,
-      p.after
-          ∙ ap (λ m. (sheet_step k rule m before q).after) inv.3
-          ∙ ap (λ s. (step s q).after) inv.6
-          ∙ sym (run_more step first calls i q taken c.listed-item.is),
-      ap (map replied) items
-          ∙ map_push replied (vec_items old) a
-          ∙ ap (λ l. l ++ (replied a ∷ [])) inv.7
-          ∙ ap (λ z. replies step first (take i calls) ++ (z ∷ [])) (p.answer ∙ ap (λ m. (sheet_step k rule m before q).answer) inv.3 ∙ ap (λ s. (step s q).answer) inv.6)
-          ∙ sym (replies_more step first calls i q taken c.listed-item.is),
-    )
-
-pub returns : goal.returns
-returns g c =
-    let step = sheet_step g.C.Figure.Kind.means (g.C.Conversion.rule c.args.c.now) (size c.args.sheet) in
-    let first = seen c.args.sheet c.args.marks.now c.args.figures.now in
-    let calls = c.args.calls.now in
-    let all = take_all c.loop-listed.listed-index calls c.loop-listed-test.false in
+    let items : vec_items c.push.new.self ≡ old ++ (a ∷ []) = c.push.ensures.items ∙ ap (λ b. cond b (old ++ (a ∷ [])) old) pushed in
+    let longer : vec_len c.push.new.self ≡ vec_len c.loop-listed.answers + 1 = c.push.ensures.len ∙ ap (λ b. cond b (vec_len c.loop-listed.answers + 1) (vec_len c.loop-listed.answers)) pushed in
+    let kept = c.push.ensures.capacity in
+    let after = p.after ∙ ap (λ m. (sheet_step k rule m now q).after) inv.same_size in
+    let answer = p.answer ∙ ap (λ m. (sheet_step k rule m now q).answer) inv.same_size in
     record {
-      after = c.loop-listed.invariant.6 ∙ ap (run step first) all;
-      answers = c.loop-listed.invariant.7 ∙ ap (replies step first) all;
+      within = omega arith;
+      one_each = omega arith;
+      room = omega arith;
+      same_size = p.same_size ∙ inv.same_size;
+      other_marks = next.ensures.other_marks ∙ inv.other_marks;
+      other_figures = next.ensures.other_figures ∙ inv.other_figures;
+      after = run_next step calls i q taken c.listed-item.is now later after ∙ inv.after;
+      answers =
+          ap (λ l. map replied l ++ replies step later (drop (i + 1) calls)) items
+          ∙ ap (λ l. l ++ replies step later (drop (i + 1) calls)) (map_push replied old a)
+          ∙ replies_next step calls i q taken c.listed-item.is now later after (replied a) answer (map replied old)
+          ∙ inv.answers;
     }
