@@ -7,6 +7,7 @@ use Rattle.exponential.specs.Exp.{exp_of}
 use Rattle.exponential.specs.Expm1 as Expm1
 use Rattle.exponential.specs.Expm1.{expm1_of}
 use Rattle.logarithm.specs.Log.{log_of}
+use Rattle.logarithm.specs.Log1p as Log1p
 use Rattle.logarithm.specs.Log1p.{log1p_of}
 use Rattle.hyperbolic.specs.Sinh.{sinh_of}
 use Rattle.hyperbolic.specs.Cosh.{cosh_of}

@@ -12,7 +12,8 @@ fn scale<F: Power>(x: F, n: i32) -> F
     x * F::power(n)
 }
 
-// x times 2^n for every n, rounded once.
+// x times 2^n for every n, rounded once. That x fits its format is known of f64 and f32, and asked here.
+// Stays a clause of three functions: a type of values that fit would be made and taken apart in every line.
 pub(crate) fn in_steps<F: Power>(x: F, n: i32) -> F
     requires { T (fits F.format (F.float x)) }
     ensures { F.float result ≡ scalbn_of F.format (F.float x) n }

@@ -49,6 +49,7 @@ impl ClosedSheet {
     }
 
     // The sheet becomes open again; a refused reopen gives the closed sheet back.
+    // Stays a match: the head goes into the one answer or the other, and `?` would lose it.
     pub fn reopen<K: Kind>(
         self,
         marks: &[u8],

@@ -31,6 +31,7 @@ impl<K> Rows<'_, '_, K> {
     }
 
     // What a close finds: no plain row.
+    // Stays a match: here the row that is found is the refusal, which `ok_or` has the other way round.
     #[tactic(auto, using(crate::proofs::Means::first_plain))]
     pub(crate) fn none_plain(&self) -> Result<(), Refusal>
         ensures { answered result ≡ close_rule (rows_of self.now.marks.now self.now.figures.now) }

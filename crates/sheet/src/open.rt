@@ -118,6 +118,7 @@ impl OpenSheet {
     }
 
     // A sheet with no plain row becomes closed; a refused close gives the open sheet back.
+    // Stays a match: the head goes into the one answer or the other, and `?` would lose it.
     pub fn close<K: Kind>(
         self,
         marks: &[u8],
