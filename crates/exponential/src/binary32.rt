@@ -18,6 +18,8 @@ const OVERFLOW: f32 = f32::from_bits(0x42b1_7217);
 // Scaled coefficients, for z = r * r / 2.
 const Q: [f32; 2] = [f32::from_bits(0xbd08_8868), f32::from_bits(0x3acf_3010)];
 
+// Stays apart from the other width's: these are the numbers of its source, and the polynomial is written out
+// as it is there, so that the order of the steps can be held against it.
 impl Table for f32 {
     ghost table = { single };
 

@@ -23,6 +23,8 @@ const Q: [f64; 5] = [
     f64::from_bits(0xBE8A_FDB7_6E09_C32D),
 ];
 
+// Stays apart from the other width's: these are the numbers of its source, and the polynomial is written out
+// as it is there, so that the order of the steps can be held against it.
 impl Table for f64 {
     ghost table = { double };
 

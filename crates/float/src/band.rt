@@ -21,6 +21,7 @@ pub fn negative<F: Float>(x: F) -> bool
     !x.is_nan() && x.is_sign_negative()
 }
 
+// Stays a table of two that the sign indexes, as the source's macro for it is.
 const HALF: [f32; 2] = [0.5, -0.5];
 
 // A half with x's sign.

@@ -19,6 +19,7 @@ pub(crate) const ZERO: u64 = 0;
 
 pub(crate) const MINUS_ZERO: u64 = 0x8000_0000_0000_0000;
 
+// Stays here and in the conversions' tests: neither crate of tests is a library of the other.
 // A float and its bits. Every NaN of an f32 has the bits 0x7fc00000.
 pub(crate) trait Bits {
     type Pattern: Copy + PartialEq + Debug;

@@ -15,6 +15,7 @@ pub enum Refusal {
 impl Numbered for Refusal {
     ghost told = { told };
 
+    // Stays a number: by it a refusal is known outside.
     fn number(&self) -> u8 {
         match *self {
             Refusal::Malformed => 14,

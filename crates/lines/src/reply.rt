@@ -5,6 +5,7 @@ ghost use Rattle.lines.specs.Laws.{Fitting, Answers};
 ghost use Rattle.lines.specs.Replies.{question_in, answer_to, reply_to};
 
 use crate::question::Question;
+use crate::refusal::Refusal;
 use crate::short::Reply;
 
 // The digits of the result, or the refusal.
@@ -12,10 +13,7 @@ fn answer(line: &[u8]) -> Reply
     ensures value { held result ≡ answer_to (question_in line.now) }
     ensures fitting { Fitting line.now }
 {
-    match Question::read(line) {
-        Ok(question) => question.answer(),
-        Err(refusal) => refusal.text(),
-    }
+    Question::read(line).map_or_else(Refusal::text, Question::answer)
 }
 
 // The text and a line feed, for which it has room.

@@ -29,6 +29,8 @@ fn moved(b: u32) -> u32
     b % 0x8000_0000 + 0x004a_fb0d
 }
 
+// Stays apart from the other width's: these are the numbers of its source, and the polynomials are written out
+// as they are there, so that the order of the steps can be held against it.
 impl Table for f32 {
     ghost table = { single };
 

@@ -32,6 +32,8 @@ fn moved(b: u64) -> u64
     b % 0x8000_0000_0000_0000 + 0x0009_5f62_0000_0000
 }
 
+// Stays apart from the other width's: these are the numbers of its source, and the polynomials are written out
+// as they are there, so that the order of the steps can be held against it.
 impl Table for f64 {
     ghost table = { double };
 

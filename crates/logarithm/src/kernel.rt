@@ -39,6 +39,7 @@ pub(crate) fn sum<F: Table>(f: F, low: F, high: F) -> F
     join(f, f / (F::of(2.0) + f), low, high)
 }
 
+// The two stay here and beside the reduction of exp: each takes its half of ln 2 from the table of its own crate.
 pub(crate) fn high_part<F: Table>(k: i16) -> F
     ensures { F.float result ≡ high_part F.table.log k }
 {

@@ -12,7 +12,7 @@ pub trait Scaling: Width {
         ensures { Self.float result ≡ scalbn_of Self.format (Self.float self) n };
 }
 
-// Stays two impls: the methods are public functions of their own, each with its name in the source.
+// Stays two impls: that a value fits its format, which the steps ask for, is known of f64 and of f32 only.
 impl Scaling for f64 {
     fn scalbn(self, n: i32) -> f64 {
         scalbn(self, n)

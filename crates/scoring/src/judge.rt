@@ -1,8 +1,8 @@
-ghost use Rattle.std.specs.Prelude.{◌≡◌, map, None, Ok, Err};
+ghost use Rattle.std.specs.Prelude.{◌≡◌, map, None, Ok, Err, MatchResult};
 ghost use Rattle.ledger.specs.Ledgers.{refused as refused_reply};
 ghost use Rattle.sheet.specs.Refusals.{told};
 ghost use Rattle.week.specs.Weeks.{replied};
-ghost use Rattle.scoring.specs.Scores.{next, amount_read, verdict_read, judged, judgement};
+ghost use Rattle.scoring.specs.Scores.{next, amount_read, verdict_read, judged, judgement, unsettled};
 ghost use Rattle.scoring.specs.Readings.{reading};
 
 use crate::judgement::{Amounts, Judgement, Settlement};
@@ -67,20 +67,23 @@ fn read_one<K: Kind>(
     }
 }
 
-// What the answers of a week come to.
-// Stays a loop with a `match`: an answer that ends it gives a judgement, which is no error for a `?`.
-pub fn judge<K: Kind>(answers: &[Answer<K>]) -> Judgement<K>
-    ensures { judged result ≡ judgement 0 None None (map replied answers.now) }
+// All answers read, up to the one that ends the week.
+fn read_all<K: Kind>(answers: &[Answer<K>]) -> Result<(), Judgement<K>>
+    ensures { MatchResult result (λ _. judgement 0 None None (map replied answers.now) ≡ unsettled) (λ end. judgement 0 None None (map replied answers.now) ≡ judged end) }
 {
     let mut so_far = Amounts {
         total: None,
         mean: None,
     };
     for (i, answer) in answers.iter().enumerate() {
-        match read_one(i, so_far, answer) {
-            Ok(more) => so_far = more,
-            Err(end) => return end,
-        }
+        so_far = read_one(i, so_far, answer)?;
     }
-    Judgement::Unsettled
+    Ok(())
+}
+
+// What the answers of a week come to.
+pub fn judge<K: Kind>(answers: &[Answer<K>]) -> Judgement<K>
+    ensures { judged result ≡ judgement 0 None None (map replied answers.now) }
+{
+    read_all(answers).err().unwrap_or(Judgement::Unsettled)
 }

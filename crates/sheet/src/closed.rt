@@ -9,6 +9,7 @@ use crate::rows::Rows;
 use kinds::kind::Kind;
 use ledger::mark::Mark;
 
+// As with the open sheet, the calls take two slices.
 impl ClosedSheet {
     // The mark and the figure of a row.
     pub fn read<K: Kind>(
@@ -49,7 +50,6 @@ impl ClosedSheet {
     }
 
     // The sheet becomes open again; a refused reopen gives the closed sheet back.
-    // Stays a match: the head goes into the one answer or the other, and `?` would lose it.
     pub fn reopen<K: Kind>(
         self,
         marks: &[u8],
@@ -57,9 +57,8 @@ impl ClosedSheet {
     ) -> Result<OpenSheet, (ClosedSheet, Refusal)>
         ensures { reopens result ≡ reopening K.Kind.means marks.now figures.now self.len }
     {
-        match Rows::of(self.len, marks, figures) {
-            Ok(_) => Ok(OpenSheet { len: self.len }),
-            Err(refusal) => Err((self, refusal)),
-        }
+        let len = self.len;
+        Rows::of(len, marks, figures).map_err(|refusal| (self, refusal))?;
+        Ok(OpenSheet { len })
     }
 }

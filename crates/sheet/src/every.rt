@@ -31,15 +31,12 @@ impl<K> Rows<'_, '_, K> {
     }
 
     // What a close finds: no plain row.
-    // Stays a match: here the row that is found is the refusal, which `ok_or` has the other way round.
     #[tactic(auto, using(crate::proofs::Means::first_plain))]
     pub(crate) fn none_plain(&self) -> Result<(), Refusal>
         ensures { answered result ≡ close_rule (rows_of self.now.marks.now self.now.figures.now) }
     {
-        match self.first_plain() {
-            Some(row) => Err(Refusal::StillPlain(row)),
-            None => Ok(()),
-        }
+        self.first_plain()
+            .map_or(Ok(()), |row| Err(Refusal::StillPlain(row)))
     }
 }
 
@@ -75,10 +72,7 @@ fn turned_row<C: Conversion>(c: &C, byte: u8, x: C::Figure) -> (u8, C::Figure)
     if Mark::from(byte) != Mark::Plain {
         return (byte, x);
     }
-    match c.on(x) {
-        Ok(y) => (Mark::Turned.into(), y),
-        Err(_) => (byte, x),
-    }
+    c.on(x).map_or((byte, x), |y| (Mark::Turned.into(), y))
 }
 
 // Turns every plain row.

@@ -16,7 +16,7 @@ pub fn open<K: Kind>(marks: &mut [u8], figures: &mut [K]) -> Result<OpenSheet, R
     ensures { opens result marks.new figures.new ≡ opened K.Kind.means marks.old figures.old }
 {
     let len = marks.len();
-    if figures.len() != len || len < 1 || len > 4096 {
+    if figures.len() != len || !(1..=4096).contains(&len) {
         return Err(Refusal::Memory);
     }
     marks.fill(Mark::Free.into());
@@ -24,6 +24,7 @@ pub fn open<K: Kind>(marks: &mut [u8], figures: &mut [K]) -> Result<OpenSheet, R
     Ok(OpenSheet { len })
 }
 
+// The calls take two slices, and no struct of them: so the memory comes from its owner, whatever it holds.
 impl OpenSheet {
     // A number into a free row, which becomes plain.
     pub fn enter<K: Kind>(
@@ -73,7 +74,7 @@ impl OpenSheet {
         Ok(())
     }
 
-    // The conversion back from a turned row, which becomes plain.
+    // The conversion back from a turned row, which becomes plain. Stays beside on: each is a call by its name.
     pub fn back<C: Conversion>(
         &mut self,
         marks: &mut [u8],
@@ -118,7 +119,6 @@ impl OpenSheet {
     }
 
     // A sheet with no plain row becomes closed; a refused close gives the open sheet back.
-    // Stays a match: the head goes into the one answer or the other, and `?` would lose it.
     pub fn close<K: Kind>(
         self,
         marks: &[u8],
@@ -126,9 +126,10 @@ impl OpenSheet {
     ) -> Result<ClosedSheet, (OpenSheet, Refusal)>
         ensures { closes result ≡ closing K.Kind.means marks.now figures.now self.len }
     {
-        match Rows::of(self.len, marks, figures).and_then(|rows| rows.none_plain()) {
-            Ok(()) => Ok(ClosedSheet { len: self.len }),
-            Err(refusal) => Err((self, refusal)),
-        }
+        let len = self.len;
+        Rows::of(len, marks, figures)
+            .and_then(|rows| rows.none_plain())
+            .map_err(|refusal| (self, refusal))?;
+        Ok(ClosedSheet { len })
     }
 }

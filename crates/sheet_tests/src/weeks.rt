@@ -42,6 +42,8 @@ fn listed(rt: HostRuntime) -> Result<(), Fail> {
     let plain = Refusal::StillPlain(0);
     assert_eq!(rt; held.number(), 3);
     assert_eq!(rt; plain.number(), 8);
+    assert_eq!(rt; held.row(), Some(0));
+    assert_eq!(rt; plain.row(), Some(0));
     let answers = [
         Answer::Done,
         Answer::Refused(held),

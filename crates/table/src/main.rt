@@ -6,7 +6,7 @@ use lines::short::Reply;
 use std::io;
 use std::io::{BufReader, BufWriter, Read, Write};
 
-// Writes a reply, if there is one.
+// Writes a reply, if there is one. Stays beside the library's, which adds to a `Vec` and not to a writer.
 fn write_reply(out: &mut impl Write, reply: Option<Reply>) -> io::Result<()> {
     if let Some(bytes) = reply {
         out.write_all(bytes.as_slice())?;

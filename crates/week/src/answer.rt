@@ -22,7 +22,7 @@ pub enum Answer<K> {
 
 impl<K> Answer<K> {
     // The answer of a call that gave this: `given` of the value, or the refusal.
-    // Stays a match, the one place that tells the two apart: `map_or_else` would have the refusal first.
+    // Stays a match: of `map_or_else` with a `given` of this type the check makes no proof yet.
     pub(crate) fn of<T, F: FnOnce(T) -> Answer<K>>(r: Result<T, Refusal>, given: F) -> Answer<K>
         requires { F.IsAlwaysCallable given }
         ensures { MatchResult r (λ x. F.post given x result) (λ refusal. result ≡ Answer.Refused refusal) }

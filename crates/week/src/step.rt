@@ -28,6 +28,7 @@ pub fn step<C: Conversion>(
     }
 }
 
+// The two slices stay apart here and in the carrier, as the sheet's calls take them.
 fn step_open<C: Conversion>(
     sheet: OpenSheet,
     c: &C,
@@ -61,10 +62,10 @@ fn passed<A, B, K, F: FnOnce(A) -> Sheet, G: FnOnce(B) -> Sheet>(
     requires kept { G.IsAlwaysCallable kept }
     ensures { MatchResult r (λ head. F.post given head result.0 × (result.1 ≡ Answer.Done)) (λ p. G.post kept p.0 result.0 × (result.1 ≡ Answer.Refused p.1)) }
 {
-    match r {
-        Ok(head) => (given(head), Answer::Done),
-        Err((head, refusal)) => (kept(head), Answer::Refused(refusal)),
-    }
+    r.map_or_else(
+        |(head, refusal)| (kept(head), Answer::Refused(refusal)),
+        |head| (given(head), Answer::Done),
+    )
 }
 
 fn step_closed<K: Kind>(

@@ -84,9 +84,9 @@ impl fmt::Display for Shown<'_, Refusal> {
     fn fmt<W: fmt::Write>(&self, f: &mut fmt::Formatter<W>) -> fmt::Result {
         let number = self.0.number();
         write!(f, "refused with {number}")?;
-        match self.0.row() {
-            Some(row) => write!(f, ", row {row}"),
-            None => Ok(()),
+        if let Some(row) = self.0.row() {
+            write!(f, ", row {row}")?;
         }
+        Ok(())
     }
 }
