@@ -22,6 +22,10 @@ pub record Rule (K : Type 0) : Type 0 where
 abbrev pub numbered : {K : Type 0} → Meaning K → K → Result K Refusal
 numbered k x = cond (k.number x) (Ok x) (Err NotANumber)
 
+-- the same, by what is told of the refusal
+abbrev pub number_answer : {K : Type 0} → Meaning K → K → Result K Told
+number_answer k x = cond (k.number x) (Ok x) (Err not_a_number)
+
 module _ {K : Type 0} (k : Meaning K) (c : Rule K) where
   -- the back range: the numbers from the low end to the high end, both included as numbers
   abbrev pub in_range : K → Bool
@@ -30,6 +34,10 @@ module _ {K : Type 0} (k : Meaning K) (c : Rule K) where
   -- the figure itself, where it lies in the back range
   abbrev pub ranged : K → Result K Refusal
   ranged x = cond (in_range x) (Ok x) (Err OutsideBackRange)
+
+  -- the same, by what is told of the refusal
+  abbrev pub range_answer : K → Result K Told
+  range_answer x = cond (in_range x) (Ok x) (Err outside)
 
   -- on takes exactly the numbers
   abbrev pub on_answer : K → Result K Told

@@ -1,13 +1,14 @@
 ghost use Rattle.std.specs.Prelude.{◌≡◌};
 ghost use Rattle.conversion.specs.Refusals.{answered};
-ghost use Rattle.conversion.specs.Conversions.{Rule, Sound, AllNumbers, Mirrored, on_answer, back_answer, back_number_answer, in_range, numbered, ranged, Gives};
+ghost use Rattle.conversion.specs.Conversions.{Rule, Sound, AllNumbers, Mirrored, on_answer, back_answer, back_number_answer, in_range, numbered, number_answer, ranged, range_answer, Gives};
 
 use crate::refusal::Refusal;
 use kinds::kind::Kind;
 
 // The figure, if it is a number: what every on takes.
 pub fn as_number<K: Kind>(x: K) -> Result<K, Refusal>
-    ensures { result ≡ numbered K.Kind.means x }
+    ensures answer { answered result ≡ number_answer K.Kind.means x }
+    ensures refusal { result ≡ numbered K.Kind.means x }
 {
     x.is_number().then_some(x).ok_or(Refusal::NotANumber)
 }
@@ -42,7 +43,8 @@ pub trait Conversion {
 
     // The figure, if it lies in the back range: what its back takes.
     fn in_back_range(&self, x: Self::Figure) -> Result<Self::Figure, Refusal>
-        ensures { result ≡ ranged Self.Figure.Kind.means (rule self.now) x }
+        ensures answer { answered result ≡ range_answer Self.Figure.Kind.means (rule self.now) x }
+        ensures refusal { result ≡ ranged Self.Figure.Kind.means (rule self.now) x }
     {
         self.takes_back(x)
             .then_some(x)

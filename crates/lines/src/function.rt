@@ -3,6 +3,8 @@ ghost use Rattle.std.specs.Prelude.{◌≡◌, ◌^◌, ◌<◌, ◌≤◌, [], 
 ghost use Rattle.std.specs.Float.{binary32, binary64};
 ghost use Rattle.std.specs.Option.{ok_or};
 ghost use Rattle.lines.specs.declared.refusal.Refusal.TheVariants.{Malformed};
+ghost use Rattle.lines.specs.Refusals.{told};
+ghost use Rattle.refusals.specs.Refusals.{answered};
 ghost use Rattle.lines.specs.Functions.{functions, first_named, places_of, result_at};
 
 use crate::refusal::Refusal;
@@ -62,7 +64,9 @@ pub enum Function {
 impl TryFrom<char> for Function {
     type Error = Refusal;
 
-    ghost try_from_gives = { λ letter answer. answer ≡ ok_or (first_named functions (letter ∷ [])) Malformed };
+    ghost try_from_gives = { λ letter answer.
+        (answered told answer ≡ ok_or (first_named functions (letter ∷ [])) (told Malformed))
+        × (answer ≡ ok_or (first_named functions (letter ∷ [])) Malformed) };
 
     // The function whose name is this letter.
     fn try_from(letter: char) -> Result<Function, Refusal> {
