@@ -19,11 +19,11 @@ returns-in_err-function c =
     rw (p.1, p.2)
     (with_space c.args.line.now c.from.result (Err c.in_err-function.field-0.0)
     (ltb-false 32 (length c.args.line.now) (sym c.if-is_long.ensures)) (omega arith) (omega arith) c.from.ensures
-    (sym c.in_err-function.was ∙ c.try_from.ensures))
+    (sym c.in_err-function.was ∙ c.try_from.ensures.1))
 
 pub returns : goal.returns
 returns c =
     c.of.ensures
     ∙ with_space c.args.line.now c.from.result (Ok c.in_ok-function.function)
     (ltb-false 32 (length c.args.line.now) (sym c.if-is_long.ensures)) (omega arith) (omega arith) c.from.ensures
-    (sym c.in_ok-function.was ∙ c.try_from.ensures)
+    (sym c.in_ok-function.was ∙ c.try_from.ensures.1)
