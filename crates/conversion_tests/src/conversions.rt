@@ -1,7 +1,7 @@
 // The reversal of cents, and layers over it.
 use crate::same::refused;
 use conversion::chain::Chain;
-use conversion::conversion::{Conversion, Full};
+use conversion::conversion::{Conversion, Full, as_number};
 use conversion::flip::Flip;
 use conversion::refusal::{Refusal, refused_as};
 use conversion::reversal::Reversal;
@@ -71,4 +71,14 @@ fn refused_otherwise(rt: HostRuntime) -> Result<(), Fail> {
     refused(&rt, refused_as(answer, Refusal::OutsideBackRange), 7)?;
     assert_eq!(rt; refused_as::<i64>(Ok(3), Refusal::NotANumber)?, 3);
     Ok(())
+}
+
+// What every on takes, and what the back of a conversion takes.
+#[test]
+fn taken(rt: HostRuntime) -> Result<(), Fail> {
+    assert_eq!(rt; as_number(-LIMIT)?, -LIMIT);
+    refused(&rt, as_number(LIMIT + 1), 4)?;
+    refused(&rt, as_number(f64::NAN), 4)?;
+    assert_eq!(rt; Reversal.in_back_range(LIMIT)?, LIMIT);
+    refused(&rt, Reversal.in_back_range(i64::MIN), 7)
 }

@@ -1,5 +1,5 @@
 use crate::bits::{Bits, INFINITY, MINUS_ZERO, NAN};
-use float::band::{below, negative};
+use float::band::{below, half_like, negative, signed_like};
 
 #[test]
 fn below_by_high_word(rt: HostRuntime) {
@@ -24,5 +24,19 @@ fn negative_by_sign(rt: HostRuntime) {
         (-1.5, true),
     ] {
         assert_eq!(rt; negative(x), expected);
+    }
+}
+
+// Either zero has a sign.
+#[test]
+fn signs_of_values(rt: HostRuntime) {
+    for (x, half, signed) in [
+        (1.5f64, 0.5, 3.0),
+        (-1.5, -0.5, -3.0),
+        (0.0, 0.5, 3.0),
+        (-0.0, -0.5, -3.0),
+    ] {
+        assert_eq!(rt; half_like(x), half);
+        assert_eq!(rt; signed_like(x, 3.0), signed);
     }
 }

@@ -122,3 +122,21 @@ fn strange_bytes(rt: HostRuntime) -> Result<(), Fail> {
     assert_eq!(rt; x, 4.0f32);
     Ok(())
 }
+
+// A mark as a byte and as a word; a byte that is no mark is read as free.
+#[test]
+fn marks_alone(rt: HostRuntime) -> Result<(), Fail> {
+    for (mark, byte, name) in [
+        (Mark::Free, 0, "free"),
+        (Mark::Plain, 1, "plain"),
+        (Mark::Turned, 2, "turned"),
+    ] {
+        assert_eq!(rt; u8::from(mark), byte);
+        assert_eq!(rt; Mark::from(byte), mark);
+        assert_eq!(rt; format!(in rt.alloc(); "{mark}")?.as_str(), name);
+    }
+    for byte in [3, 48, 255] {
+        assert_eq!(rt; Mark::from(byte), Mark::Free);
+    }
+    Ok(())
+}

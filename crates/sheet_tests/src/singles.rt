@@ -43,6 +43,12 @@ fn by_the_calls(rt: HostRuntime) -> Result<(), Fail> {
     let mut sheet = open(&mut marks, &mut figures)?;
     refused(&rt, sheet.enter(&mut marks[0..1], &mut figures, 0, 1.0), 1)?;
     refused_at(&rt, sheet.enter(&mut marks, &mut figures, 2, 1.0), 2, 2)?;
+    refused_at(
+        &rt,
+        sheet.enter(&mut marks, &mut figures, 1, f32::NAN),
+        4,
+        1,
+    )?;
     refused_at(&rt, sheet.on(&mut marks, &mut figures, &expm1f, 0), 5, 0)?;
     sheet.enter(&mut marks, &mut figures, 0, 88.5)?;
     refused_at(&rt, sheet.enter(&mut marks, &mut figures, 0, 1.0), 3, 0)?;
