@@ -1,5 +1,5 @@
 ghost use Rattle.std.specs.Prelude.{◌≡◌};
-ghost use Rattle.conversion.specs.Refusals.{told, answered, refused_as};
+ghost use Rattle.conversion.specs.Refusals.{told, answered, refused_as, on_refused, back_refused};
 
 use refusals::Numbered;
 
@@ -32,4 +32,18 @@ pub fn refused_as<K>(answer: Result<K, Refusal>, refusal: Refusal) -> Result<K, 
     ensures { answered result ≡ refused_as (told refusal) answer }
 {
     answer.map_err(|_| refusal)
+}
+
+// The answer of an on, where a function inside refused in its own words.
+pub fn as_on<K>(answer: Result<K, Refusal>) -> Result<K, Refusal>
+    ensures { answered result ≡ on_refused answer }
+{
+    refused_as(answer, Refusal::NotANumber)
+}
+
+// The answer of a back, where a function inside refused in its own words.
+pub fn as_back<K>(answer: Result<K, Refusal>) -> Result<K, Refusal>
+    ensures { answered result ≡ back_refused answer }
+{
+    refused_as(answer, Refusal::OutsideBackRange)
 }

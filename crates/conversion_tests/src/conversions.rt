@@ -3,7 +3,7 @@ use crate::same::refused;
 use conversion::chain::Chain;
 use conversion::conversion::{Conversion, Full, as_number};
 use conversion::flip::Flip;
-use conversion::refusal::{Refusal, refused_as};
+use conversion::refusal::{Refusal, as_back, as_on, refused_as};
 use conversion::reversal::Reversal;
 use conversion::trip::round_trip;
 use kinds::cents::LIMIT;
@@ -70,6 +70,9 @@ fn refused_otherwise(rt: HostRuntime) -> Result<(), Fail> {
     refused(&rt, refused_as(answer, Refusal::NotANumber), 4)?;
     refused(&rt, refused_as(answer, Refusal::OutsideBackRange), 7)?;
     assert_eq!(rt; refused_as::<i64>(Ok(3), Refusal::NotANumber)?, 3);
+    refused(&rt, as_on(answer), 4)?;
+    refused(&rt, as_back(answer), 7)?;
+    assert_eq!(rt; as_on::<i64>(Ok(3))?, 3);
     Ok(())
 }
 

@@ -1,10 +1,12 @@
 -- How far the count of ln 2 goes, and which arguments are reduced: two facts of a table, and their proofs for the two tables.
-use Rattle.std.specs.Prelude.{◌≡◌, ℕ, false, not, T, List, [], ◌∷◌, ℤ, pos, negsuc, ◌≤ℤ◌, from_bits, refl, Float}
-use lib.Ieee.{fin, add, mul, neg, le, is_nan, of_bits, to_signed}
+use Rattle.std.specs.Prelude.{◌≡◌, ℕ, true, false, not, T, List, [], ◌∷◌, ℤ, pos, negsuc, ◌≤ℤ◌, from_bits, refl, Float}
+use lib.Ieee.{fin, add, mul, neg, le, lt, is_nan, of_bits, to_signed}
 use Rattle.std.specs.Float.{is_sign_negative, Format}
 use Rattle.std.proofs.Common.{arith, sym, ap, ◌∙◌, subst}
 use Rattle.std.proofs.lemmas.Int.{ints}
+use Rattle.numeric.proofs.Rounding.{le_trans_f}
 use Rattle.numeric.proofs.Intervals.{Itv, mk, In}
+use Rattle.numeric.proofs.Order.{le-lt}
 use Rattle.numeric.proofs.Programs.{Code, at, lit, plus, times, span, fits_in, bounded_all}
 use Rattle.numeric.proofs.Tests.{by_cases}
 use Rattle.numeric.proofs.Truncation.{Within, to_signed_within}
@@ -49,12 +51,14 @@ module _ (c : Ln2) where
   pub half_in : (x : Float) → In (half_like c x) (mk (minus_half F) (half F))
   half_in x = by_cases (λ (h : Float). In h (mk (minus_half F) (half F))) (is_sign_negative x) (minus_half F) (half F) (λ _. ((halves F).0, (halves F).1)) (λ _. ((halves F).1, (halves F).2))
 
--- between these ends it is at most n in size: to be computed of a table
-record Reach (c : Ln2) (n : ℕ) : Type 0 where
+-- between these ends it is at most n in size, far inside an i64: to be computed of a table
+pub record Reach (c : Ln2) (n : ℕ) : Type 0 where
   pub within : T (fits_in (span c.format (steps c) (ends c)) (neg (fin false n (pos 0))) (fin false n (pos 0)))
+  pub low : T (le (fin true 1 (pos 63)) (neg (fin false n (pos 0))))
+  pub high : T (not (le (fin false 1 (pos 63)) (fin false n (pos 0))))
 
 -- k is the count of ln 2 in x, and at most n in size
-abbrev Counted : Ln2 → ℕ → Float → ℤ → Type 0
+abbrev pub Counted : Ln2 → ℕ → Float → ℤ → Type 0
 Counted c n x k = (k ≡ whole_of c x) × Within n k
 
 module _ (c : Ln2) (n : ℕ) (r : Reach c n) (x h : Float) (half_is : h ≡ half_like c x) (ok : Reducible c x) where
@@ -66,26 +70,32 @@ module _ (c : Ln2) (n : ℕ) (r : Reach c n) (x h : Float) (half_is : h ≡ half
       subst (λ (y : Float). In (in_ln2s c x y) (mk (neg top) top)) (sym half_is)
       (bounded_all c.format (steps c) (x ∷ half_like c x ∷ []) (ends c) (neg top) top r.within (mag_in x (widest_of c) ok, (half_in c x, tt)))
 
-  counted : (k : ℤ) → k ≡ to_signed 63 (in_ln2s c x h) → Counted c n x k
+  pub inside_i64 : T (le (fin true 1 (pos 63)) (in_ln2s c x h)) × T (lt (in_ln2s c x h) (fin false 1 (pos 63)))
+  inside_i64 = (
+    le_trans_f (fin true 1 (pos 63)) (neg top) (in_ln2s c x h) r.low in-ln2s.0,
+    le-lt (in_ln2s c x h) top (fin false 1 (pos 63)) (unfold is_nan in tt) in-ln2s.1 r.high,
+  )
+
+  pub counted : (k : ℤ) → k ≡ to_signed 63 (in_ln2s c x h) → Counted c n x k
   counted k e = (
     e ∙ ap (λ (y : Float). to_signed 63 (in_ln2s c x y)) half_is,
     subst (Within n) (sym e) (to_signed_within 63 n (in_ln2s c x h) in-ln2s.0 in-ln2s.1),
   )
 
 -- ---- of the two tables
-reach_double : Reach Ln2s.double 1076
+pub double_reach : Reach Ln2s.double 1076
 unfolding of_bits add mul neg le
-reach_double = record { within = tt }
+double_reach = record { within = tt; low = tt; high = tt }
 
-reach_single : Reach Ln2s.single 129
+pub single_reach : Reach Ln2s.single 129
 unfolding of_bits add mul neg le
-reach_single = record { within = tt }
+single_reach = record { within = tt; low = tt; high = tt }
 
 pub double_counts : CountsFit Ln2s.double
-double_counts x h = (let k = counted Ln2s.double 1076 reach_double x (half_like Ln2s.double x) refl h (whole_of Ln2s.double x) refl in (omega (arith, ints), omega (arith, ints)))
+double_counts x h = (let k = counted Ln2s.double 1076 double_reach x (half_like Ln2s.double x) refl h (whole_of Ln2s.double x) refl in (omega (arith, ints), omega (arith, ints)))
 
 pub single_counts : CountsFit Ln2s.single
-single_counts x h = (let k = counted Ln2s.single 129 reach_single x (half_like Ln2s.single x) refl h (whole_of Ln2s.single x) refl in (omega (arith, ints), omega (arith, ints)))
+single_counts x h = (let k = counted Ln2s.single 129 single_reach x (half_like Ln2s.single x) refl h (whole_of Ln2s.single x) refl in (omega (arith, ints), omega (arith, ints)))
 
 pub double_reduces : Reduces Expm1s.double
 unfolding of_bits le is_nan

@@ -4,7 +4,7 @@ ghost use Rattle.exponential.specs.Expm1.{single};
 ghost use Rattle.std.specs.Prelude.{refl};
 
 use crate::table::Table;
-use float::band::below;
+use float::band::{below, negative};
 
 const LN2_HI: f32 = f32::from_bits(0x3f31_7180);
 
@@ -14,6 +14,9 @@ const INV_LN2: f32 = f32::from_bits(0x3fb8_aa3b);
 
 // 88.72..: above it the result overflows.
 const OVERFLOW: f32 = f32::from_bits(0x42b1_7217);
+
+// Stays a table of two that the sign indexes, as the source's macro for it is.
+const HALF: [f32; 2] = [0.5, -0.5];
 
 // Scaled coefficients, for z = r * r / 2.
 const Q: [f32; 2] = [f32::from_bits(0xbd08_8868), f32::from_bits(0x3acf_3010)];
@@ -31,6 +34,10 @@ impl Table for f32 {
 
     fn inv_ln2() -> f32 {
         INV_LN2
+    }
+
+    fn half_like(self) -> f32 {
+        HALF[negative(self) as usize]
     }
 
     fn ln2_hi() -> f32 {

@@ -146,6 +146,7 @@ fn reduced<F: Table>(k: i16, x: F) -> F
 }
 
 // Whether x is negative and of a size from 56 ln 2 on, or 27 ln 2 of an f32.
+#[inline(always)]
 fn is_sunk<F: Table>(x: F) -> bool
     ensures { result ≡ sunk F.table (F.float x) }
 {
@@ -153,6 +154,7 @@ fn is_sunk<F: Table>(x: F) -> bool
 }
 
 // Whether x is above the threshold of overflow.
+#[inline(always)]
 fn is_over<F: Table>(x: F) -> bool
     ensures { result ≡ over F.table (F.float x) }
 {

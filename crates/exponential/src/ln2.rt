@@ -3,14 +3,14 @@ ghost use Rattle.std.specs.Prelude.{◌≡◌};
 ghost use Rattle.exponential.specs.Ln2.{whole_of, count_of, high_rest, low_rest, Reducible};
 
 use crate::table::Table;
-use float::band::{half_like, negative};
+use float::band::negative;
 
 // x / ln 2 and a half more, away from zero: the fraction is dropped, and the rest fits.
 fn whole<F: Table>(x: F) -> i16
     requires { Reducible F.table.ln2 (F.float x) }
     ensures { result ≡ whole_of F.table.ln2 (F.float x) }
 {
-    (F::inv_ln2() * x + half_like(x)).truncated() as i16
+    (F::inv_ln2() * x + x.half_like()).truncated() as i16
 }
 
 // How often ln 2 goes into x, to the nearest. Both widths have every i16 exactly.

@@ -2,6 +2,7 @@ ghost use Rattle.std.specs.Prelude.{◌≡◌, from_bits, int_lt};
 ghost use Rattle.float.specs.Band.{below_bits};
 ghost use Rattle.exponential.specs.Counts.{CountsFit, Reduces};
 ghost use Rattle.exponential.specs.Expm1.{Expm1, kernel_of};
+ghost use Rattle.exponential.specs.Ln2.{half_like};
 
 use scaling::scaling::Scaling;
 
@@ -12,6 +13,10 @@ pub trait Table: Scaling {
     // 1 / ln 2.
     fn inv_ln2() -> Self
         ensures { Self.float result ≡ from_bits table.ln2.format table.ln2.inverse };
+
+    // A half with the value's sign.
+    fn half_like(self) -> Self
+        ensures { Self.float result ≡ half_like table.ln2 (Self.float self) };
 
     // ln 2 in two parts.
     fn ln2_hi() -> Self

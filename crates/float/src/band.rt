@@ -1,6 +1,6 @@
 ghost use Rattle.std.specs.Prelude.{◌≡◌};
 ghost use Rattle.std.specs.Float as Floats;
-ghost use Rattle.float.specs.Band.{below_edge};
+ghost use Rattle.float.specs.Band.{below_edge, below_word};
 ghost use Rattle.float.specs.Signs.{half_like, signed_like};
 
 use crate::width::Width;
@@ -14,11 +14,25 @@ pub fn below<F: Width>(x: F, w: u32) -> bool
     w < F::infinite_word() && x.size_word() < w
 }
 
+// The same of an f32, by its pattern.
+pub fn belowf(x: f32, b: u32) -> bool
+    ensures { result ≡ below_word x b }
+{
+    below(x, b)
+}
+
 // The sign: true for -0, false for a NaN.
 pub fn negative<F: Float>(x: F) -> bool
     ensures { result ≡ Floats.is_sign_negative (F.float x) }
 {
     !x.is_nan() && x.is_sign_negative()
+}
+
+// The same of an f32.
+pub fn negativef(x: f32) -> bool
+    ensures { result ≡ Floats.is_sign_negative x }
+{
+    negative(x)
 }
 
 // Stays a table of two that the sign indexes, as the source's macro for it is.

@@ -1,5 +1,5 @@
 use crate::bits::{Bits, gives, scales};
-use float::band::{below, negative};
+use float::band::{below, belowf, negative, negativef};
 use scaling::scalbnf::scalbnf;
 use single::expm1f::expm1f;
 use single::log1pf::log1pf;
@@ -102,11 +102,13 @@ fn bands_of_f32(rt: HostRuntime) {
         (1.0, 0x7f80_0000, false),
     ] {
         assert_eq!(rt; below(x, pattern), expected);
+        assert_eq!(rt; belowf(x, pattern), expected);
     }
     for (x, expected) in [
         (f32::of_bits(0x8000_0000), true),
         (f32::of_bits(0xffc0_0000), false),
     ] {
         assert_eq!(rt; negative(x), expected);
+        assert_eq!(rt; negativef(x), expected);
     }
 }

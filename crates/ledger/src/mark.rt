@@ -52,6 +52,20 @@ impl fmt::Display for Mark {
 }
 
 impl Mark {
+    // The mark of a byte.
+    pub fn of(byte: u8) -> Mark
+        ensures { result ≡ mark_of byte }
+    {
+        Mark::from(byte)
+    }
+
+    // The byte of a mark.
+    pub fn byte(self) -> u8
+        ensures { result ≡ byte_of self }
+    {
+        u8::from(self)
+    }
+
     pub fn is_held(self) -> bool
         ensures { result ≡ held self }
     {

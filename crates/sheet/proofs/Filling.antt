@@ -21,7 +21,7 @@ module _ {A : Type 0} where
   filled_end cur new old i inv h j = inv ∙ ap (λ l. l ++ drop i old) (take_all i new h) ∙ ap (λ l. new ++ l) (drop_all i old j) ∙ append-nil new
 
   -- what is not yet written
-  unwritten : (new old : List A) (i : ℕ) (d : A) → length new ≡ length old → get_or (up_to i new old) i d ≡ get_or old i d
+  pub unwritten : (new old : List A) (i : ℕ) (d : A) → length new ≡ length old → get_or (up_to i new old) i d ≡ get_or old i d
   unwritten new old zero d e = refl
   unwritten [] [] (suc i) d e = refl
   unwritten [] (o ∷ old) (suc i) d e = absurd (omega arith)
@@ -31,3 +31,9 @@ module _ {A : Type 0} where
   -- an element that is not yet written is the old one
   pub still : (cur new old : List A) (i : ℕ) (d : A) → cur ≡ up_to i new old → length new ≡ length old → get_or cur i d ≡ get_or old i d
   still cur new old i d inv e = ap (λ l. get_or l i d) inv ∙ unwritten new old i d e
+
+-- there is something at every place of a list
+pub some_at : {K : Type 0} (xs : List K) (i : ℕ) → i < length xs → (x : K) × (x ≡ get_or xs i x)
+some_at [] i h = absurd (omega arith)
+some_at (x ∷ xs) zero h = (x, refl)
+some_at (x ∷ xs) (suc i) h = some_at xs i (omega arith)

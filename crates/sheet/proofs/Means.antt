@@ -1,5 +1,5 @@
 -- What the counts and searches over the mark bytes of a sheet say of its rows. Assumes nothing.
-use Rattle.std.proofs.Common.{◌≡◌, ℕ, suc, ◌+◌, Bool, true, false, not, cond, List, [], ◌∷◌, length, Ok, Err, Result, sym, refl, ap, ◌∙◌, nat_lt, arith}
+use Rattle.std.proofs.Common.{◌≡◌, ℕ, suc, ◌+◌, ◌≤◌, Bool, true, false, not, cond, List, [], ◌∷◌, length, Ok, Err, Result, sym, refl, ap, ◌∙◌, nat_lt, arith}
 use Rattle.std.specs.List.{count_by, position_or_len}
 use Rattle.std.proofs.lemmas.Bool.Decides.{nat_tests}
 use Rattle.std.proofs.lemmas.List.Sums.{sum_by-cons}
@@ -34,3 +34,7 @@ module _ {K : Type 0} where
           → and_then (refuse b (still_plain i) (Ok (tt {0}))) (λ _. closing (suc i) (rows_of ms xs)) ≡ cond (nat_lt (cond (not b) (1 + first ms) 0) (suc (length ms))) (Err (still_plain (i + cond (not b) (1 + first ms) 0))) (Ok (tt {0}))
       go true h = grind (arith, nat_tests)
       go false h = grind (arith, nat_tests, h)
+
+pub one_at_most : (b : Bool) → cond b 1 0 ≤ 1
+one_at_most true = omega arith
+one_at_most false = omega arith

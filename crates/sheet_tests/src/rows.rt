@@ -133,10 +133,13 @@ fn marks_alone(rt: HostRuntime) -> Result<(), Fail> {
     ] {
         assert_eq!(rt; u8::from(mark), byte);
         assert_eq!(rt; Mark::from(byte), mark);
+        assert_eq!(rt; mark.byte(), byte);
+        assert_eq!(rt; Mark::of(byte), mark);
         assert_eq!(rt; format!(in rt.alloc(); "{mark}")?.as_str(), name);
     }
     for byte in [3, 48, 255] {
         assert_eq!(rt; Mark::from(byte), Mark::Free);
+        assert_eq!(rt; Mark::of(byte), Mark::Free);
     }
     Ok(())
 }

@@ -1,5 +1,5 @@
 -- A call of a list, with the sheet's own slices or with other memory. Assumes nothing.
-use Rattle.std.proofs.Common.{◌≡◌, ℕ, ◌+◌, ◌<◌, ◌≤◌, Bool, false, cond, List, [], ◌∷◌, ◌++◌, length, get_or, take, drop, replicate, sym, ap, ◌∙◌, subst, arith, append_assoc, take-append-drop}
+use Rattle.std.proofs.Common.{◌≡◌, ℕ, zero, suc, ◌+◌, ◌<◌, ◌≤◌, Bool, false, cond, List, [], ◌∷◌, ◌++◌, length, get_or, take, drop, replicate, sym, ap, ◌∙◌, subst, arith, append_assoc, take-append-drop}
 use lib.ListN.{length-replicate}
 use Rattle.std.proofs.lemmas.List.{take-replicate, drop_more}
 use Rattle.kinds.specs.Kinds.{Meaning}
@@ -69,6 +69,11 @@ module _ {S K : Type 0} (step : S → Listed K → Step S K) (calls : List (List
 
 -- the longest memory of a list
 module _ {K : Type 0} where
+  pub fits_at : (m f : ℕ) (calls : List (Listed K)) (i : ℕ) (q : Listed K) → AllByRecursion (FitsIn m f) calls → i < length calls → q ≡ get_or calls i q → FitsIn m f q
+  fits_at m f [] i q all h e = absurd (omega arith)
+  fits_at m f (p ∷ calls) zero q all h e = subst (FitsIn m f) (sym e) all.0
+  fits_at m f (p ∷ calls) (suc i) q all h e = fits_at m f calls i q all.1 (omega arith) e
+
   pub fits_more : (m f m' f' : ℕ) (calls : List (Listed K)) (q : Listed K) → m ≤ m' → f ≤ f' → FitsIn m' f' q → AllByRecursion (FitsIn m f) calls → AllByRecursion (FitsIn m' f') (calls ++ (q ∷ []))
   fits_more m f m' f' [] q a b here all = (here, tt)
   fits_more m f m' f' (p ∷ calls) q a b here all = let h = all.0.0 in let g = all.0.1 in ((omega arith, omega arith), fits_more m f m' f' calls q a b here all.1)
