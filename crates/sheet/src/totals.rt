@@ -29,14 +29,14 @@ fn add_row<K: Kind>(row: usize, byte: u8, x: K, sum: K) -> Result<K, Refusal>
 }
 
 impl<K> Rows<'_, '_, K> {
-    // How many rows are turned.
+    // How many rows are turned. A sum of ones: by a `filter` and its `count` a mean of many rows takes up to twice as long.
     fn turned(&self) -> usize
         ensures { result ≡ count_by (λ m. is_turned (mark_of m)) self.now.marks.now }
     {
         self.marks
             .iter()
-            .filter(|byte| Mark::from(**byte) == Mark::Turned)
-            .count()
+            .map(|byte| usize::from(Mark::from(*byte) == Mark::Turned))
+            .sum()
     }
 
     // How many rows are turned, as a count: at least one.
